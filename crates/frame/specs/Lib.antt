@@ -1,0 +1,4 @@
+pub mod Lanes
+pub mod Layout
+pub mod Refusals
+pub mod ReadWrite

@@ -1,8 +1,9 @@
 -- The layout of a frame, 32 bytes, big-endian: document 01, "Frames and the air". Assumes nothing.
 -- `frameOf` says which field each byte belongs to, `bytesOf` which byte each field gives.
-use Prim.Native.Nat.{ℕ, _+_, _*_, _/_, _%_}
+use Prim.Native.Nat.{ℕ, _+_, _*_, _/_, _%_, _<_}
+use mathlib.Core.Path.{_≡_}
 use mathlib.Core.List.{List, [], _∷_, _++_, map}
-use lib.ListN.{getD}
+use lib.ListN.{length, getD}
 use Rattle.frame.specs.Lanes.{lanes}
 use Rattle.frame.specs.declared.Entry.{Entry}
 use Rattle.frame.specs.declared.Frame.{Frame}
@@ -70,3 +71,13 @@ fieldBytes f =
 -- the 32 bytes that a frame lays out
 unfoldable pub bytesOf : Frame → List ℕ
 bytesOf f = joined (fieldBytes f)
+
+-- what every value of the type `Frame` has, and every value of the type `&[u8]`
+pub record Fits (f : Frame) : Type 0 where
+  pub stamp : f .stamp .0 < 65536
+  pub word : f .word < 65536
+  pub count : length (f .entries) ≡ 8
+  pub stamps : (lane : ℕ) → entryOf f lane .stamp .0 < 65536
+
+abbrev pub Bytes : List ℕ → Type 0
+Bytes l = (i : ℕ) → byteAt l i < 256

@@ -1,0 +1,45 @@
+-- A written frame reads back as itself, and accepted bytes are those that writing gives. Assumes nothing.
+use mathlib.Core.Path.{_≡_, refl, sym, ap, _∙_}
+use mathlib.Core.List.{List, [], _∷_, map}
+use Prim.Native.Nat.{ℕ, zero, suc, _+_, _*_, _/_, _%_, _<_}
+use native.Mathlib.Omega.{arith}
+use lib.ListN.{length, getD}
+use Rattle.frame.specs.Lanes.{lanes}
+use Rattle.frame.specs.Layout.{Fits, Bytes, byteAt, entryAt, entryOf, noEntry, entriesOf, frameOf, bytesOf}
+use Rattle.frame.specs.declared.Entry.{Entry}
+use Rattle.frame.specs.declared.Frame.{Frame}
+
+-- a list is the list of its elements
+tabulate : {A : Type 0} → ℕ → (ℕ → A) → List A
+tabulate zero f = []
+tabulate (suc n) f = f zero ∷ tabulate n (λ i. f (suc i))
+
+tabulated : {A : Type 0} (d : A) (l : List A) (n : ℕ) → length l ≡ n → tabulate n (λ i. getD l i d) ≡ l
+unfolding tabulate
+tabulated d [] zero e = refl
+tabulated d [] (suc n) e = absurd (omega arith)
+tabulated d (x ∷ l) zero e = absurd (omega arith)
+tabulated d (x ∷ l) (suc n) e = ap (λ r. x ∷ r) (tabulated d l n (omega arith))
+
+-- the two bytes of a number, and the number of two bytes
+pair-joins : (n : ℕ) → n < 65536 → 256 * (n / 256 % 256) + n % 256 ≡ n
+pair-joins n h = omega arith
+
+pair-high : (a b : ℕ) → a < 256 → b < 256 → (256 * a + b) / 256 % 256 ≡ a
+pair-high a b h l = omega arith
+
+pair-low : (a b : ℕ) → a < 256 → b < 256 → (256 * a + b) % 256 ≡ b
+pair-low a b h l = omega arith
+
+entries-join : (f : Frame) → Fits f → entriesOf (bytesOf f) ≡ f .entries
+unfolding bytesOf tabulate
+entries-join f h =
+    simp (pair-joins, h .stamps) (tabulated noEntry (f .entries) 8 (h .count))
+
+pub frame-bytes : (f : Frame) → Fits f → frameOf (bytesOf f) ≡ f
+unfolding frameOf bytesOf
+frame-bytes f h = rw (pair-joins (f .stamp .0) (h .stamp), pair-joins (f .word) (h .word), entries-join f h)
+
+pub bytes-frame : (l : List ℕ) → length l ≡ 32 → Bytes l → bytesOf (frameOf l) ≡ l
+unfolding frameOf bytesOf tabulate
+bytes-frame l e h = simp (pair-high, pair-low, h) (tabulated 0 l 32 e)

@@ -50,6 +50,19 @@ pub read-accepted : (bytes : List ℕ) (f : Frame) (n : ℕ) → length bytes �
 unfolding readOf readRefusal
 read-accepted bytes f n l p q z = rw (is-32 bytes (frameRefusal (frameOf bytes)) l, ← p, ← q, z)
 
+-- a buffer of 32 bytes is refused as the frame is
+pub write-judges : (buffer : List ℕ) (f : Frame) → length buffer ≡ 32 → writeRefusal buffer f ≡ frameRefusal f
+unfolding writeRefusal
+write-judges buffer f l = is-32 buffer (frameRefusal f) l
+
+pub written-good : (buffer : List ℕ) (f : Frame) → writeRefusal buffer f ≡ 0 → written buffer f ≡ bytesOf f
+unfolding written
+written-good buffer f z = rw z
+
+pub written-bad : (buffer : List ℕ) (f : Frame) → (writeRefusal buffer f ≡ 0 → ⊥) → written buffer f ≡ buffer
+unfolding written
+written-bad buffer f h = rw (ne-eqb (writeRefusal buffer f) 0 h)
+
 -- the ways through `write`
 pub write-short : (buffer : List ℕ) (f : Frame) → (length buffer ≡ 32 → ⊥) → (6 ≡ writeRefusal buffer f) × (buffer ≡ written buffer f)
 unfolding written writeRefusal

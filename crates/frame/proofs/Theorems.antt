@@ -4,10 +4,12 @@ use mathlib.Core.Path.{_≡_, refl, sym, ap, _∙_}
 use mathlib.Core.Bool.{Bool, true, false, cond, not, _&&_, _||_}
 use mathlib.Core.List.{List}
 use Prim.Native.Nat.{ℕ, zero, suc, _+_, _*_, _<_}
+use native.Mathlib.Nat.{zero-add}
 use native.Mathlib.Omega.{arith}
-use borrow.Author.Tests.{eqb-true, eq-eqb}
+use borrow.Author.Tests.{eqb-true, ne-eqb}
 use lib.Dec.{eqb}
 use lib.ListN.{length}
+use Rattle.frame.specs.Lanes.{anyBelow}
 use Rattle.frame.specs.Layout.{Fits, Bytes, byteAt, frameOf, bytesOf}
 use Rattle.frame.specs.Refusals.{badLength, badBeacon, frameRefusal, readRefusal, writeRefusal}
 use Rattle.frame.specs.ReadWrite.{readOf, written}
@@ -53,3 +55,24 @@ unfolding readOf written writeRefusal
 writes-back bytes buffer h l e =
     let r = readable bytes e in
     (rw (e, is-32 buffer _ l) (r .1), rw (e, is-32 buffer (frameRefusal (frameOf bytes)) l, r .1, bytes-frame bytes (r .0) h))
+
+pair-nonzero : (high low : ℕ) → not (eqb (256 * high + low) 0) ≡ (not (eqb high 0) || not (eqb low 0))
+pair-nonzero zero low = rw zero-add
+pair-nonzero (suc high) low = rw (ne-eqb (256 * suc high + low) 0 (λ e. omega arith), ne-eqb (suc high) 0 (λ e. omega arith))
+
+regrouped : (a b c d e f : Bool) → (a || b || (c || d) || (e || f)) ≡ ((((((false || a) || b) || c) || d) || e) || f)
+regrouped true b c d e f = refl
+regrouped false true c d e f = refl
+regrouped false false true d e f = refl
+regrouped false false false true e f = refl
+regrouped false false false false true f = refl
+regrouped false false false false false f = refl
+
+any-of-six : (t : ℕ → Bool) → (t 0 || t 1 || (t 2 || t 3) || (t 4 || t 5)) ≡ anyBelow t 6
+unfolding anyBelow
+any-of-six t = regrouped (t 0) (t 1) (t 2) (t 3) (t 4) (t 5)
+
+-- refusal 8 in document 01's own words: a beacon whose fields are not all 0 is one "with a nonzero byte in 2–7"
+pub beacon-bytes : (bytes : List ℕ) → badBeacon (frameOf bytes) ≡ (eqb (byteAt bytes 0) 2 && anyBelow (λ (i : ℕ). not (eqb (byteAt bytes (2 + i)) 0)) 6)
+unfolding frameOf
+beacon-bytes bytes = rw (pair-nonzero (byteAt bytes 4) (byteAt bytes 5), pair-nonzero (byteAt bytes 6) (byteAt bytes 7)) (ap (λ (b : Bool). eqb (byteAt bytes 0) 2 && b) (any-of-six (λ (i : ℕ). not (eqb (byteAt bytes (2 + i)) 0))))

@@ -3,7 +3,7 @@
 ghost use mathlib.Core.Path.{_≡_};
 ghost use Prim.Native.Nat.{_+_, _*_, _<_};
 ghost use lib.ListN.{length};
-ghost use Rattle.frame.specs.Layout.{pairAt, entryAt, entriesOf, frameOf, joined, fieldBytes};
+ghost use Rattle.frame.specs.Layout.{pairAt, entryAt, entriesOf, frameOf, bytesOf, joined, fieldBytes};
 ghost use Rattle.frame.specs.Refusals.{badKind, badBeacon, badOrder, badSender, badEntry, badEntries, frameRefusal, readRefusal, writeRefusal};
 ghost use Rattle.frame.specs.ReadWrite.{refusedRead, readOf, written};
 
@@ -49,6 +49,7 @@ impl Frame {
     // The frame that these bytes lay out, or the refusal 6 to 11.
     pub fn read(bytes: &[u8]) -> FrameRead
         ensures { λ r. ⌜ r ≡ readOf (now (bytes .entry)) ⌝ }
+        ensures writes_back { λ r. ⌜ (r .refusal ≡ 0 → bytesOf (r .frame) ≡ now (bytes .entry)) ⌝ }
     {
         if bytes.len() != Frame::LENGTH {
             return refused(6);
@@ -68,6 +69,7 @@ impl Frame {
     pub fn write(self, buffer: &mut [u8]) -> u8
         ensures number { λ r. ⌜ r ≡ writeRefusal (now (buffer .entry)) self ⌝ }
         ensures bytes { λ _. ⌜ now (buffer .exit) ≡ written (now (buffer .entry)) self ⌝ }
+        ensures reads_back { λ r. ⌜ (r ≡ 0 → readOf (now (buffer .exit)) ≡ record { refusal = 0; frame = self }) ⌝ }
     {
         if buffer.len() != Frame::LENGTH {
             return 6;

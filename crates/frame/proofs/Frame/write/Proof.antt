@@ -1,19 +1,33 @@
 use borrow.Author.Needs.{needs}
+use native.Mathlib.Omega.{arith}
+use lib.ListN.{length-map}
+use mathlib.Core.Path.{sym}
+use Rattle.frame.specs.Layout.{Fits}
 use Rattle.frame.proofs.Laws.{write-short, write-refused, write-accepted}
+use Rattle.frame.proofs.Theorems.{reads-back}
+use Rattle.frame.proofs.Values.{stamps-fit}
 use Rattle.frame.proofs.Frame.write.Statement.{statement}
 use Rattle.frame.proofs.Frame.write.Tie as tie
 
 returns : tie.Need-returns
-returns c = write-short _ _ (c .if1 .taken)
+returns c = let w = write-short _ _ (c .if1 .taken) in (w .0, (w .1, λ z. absurd (omega arith)))
 
 returns-2 : tie.Need-returns-2
-returns-2 c = write-refused _ _ _ (c .before .before .if1 .left) (c .before .refusal .ensures) (c .if2 .taken)
+returns-2 c =
+    let w = write-refused _ _ _ (c .before .before .if1 .left) (c .before .refusal .ensures) (c .if2 .taken) in
+    (w .0, (w .1, λ z. absurd (c .if2 .taken z)))
 
 returns-3 : tie.Need-returns-3
 returns-3 c =
-    write-accepted _ _ _ _ _ (c .before .before .before .before .before .before .before .if1 .left) (c .before .before .before .before .before .before .refusal .ensures) (c .before .before .before .before .before .if2 .left)
-    (c .before .before .before .before .bytes-of .ensures)
-    (c .before .before .copy .ensures)
+    let self = c .before .before .before .before .before .before .before .before .before .args .self in
+    let entries = c .before .before .before .before .before .before .before .before .before .good .0 .1 .1 .1 .1 .1 .1 .1 .1 .0 in
+    let fits : Fits self =
+      record { stamp = search needs; word = search needs; count = simp length-map at (entries .1 .0 .1); stamps = stamps-fit (self .entries) (entries .0) (entries .1 .1) } in
+    let w =
+      write-accepted _ _ _ _ _ (c .before .before .before .before .before .before .before .if1 .left) (c .before .before .before .before .before .before .refusal .ensures) (c .before .before .before .before .before .if2 .left)
+      (c .before .before .before .before .bytes-of .ensures)
+      (c .before .before .copy .ensures) in
+    (w .0, (w .1, λ z. rw (w .1) (reads-back _ _ fits (sym (w .0)))))
 
 pub write-spec : {M : Type 1} → statement M
 write-spec = tie.close (tie.spec returns (λ c κs. search needs) returns-2 (λ c κs. search needs) (λ c κs. search needs) (λ c. search needs) returns-3)

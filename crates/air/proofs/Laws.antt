@@ -93,3 +93,19 @@ write-part air part exit k n f l h p e w = go (eqb (frameRefusal f) 0) refl
         let ne : n ≡ 0 → ⊥ = λ z. eqb-false (frameRefusal f) 0 q (sym judged ∙ sym e ∙ z) in
         let b = write-bad air k n f h (e ∙ judged) ne in
         (b .0, rw (w, written-bad part f (λ z. ne (e ∙ z)), p, take-append-drop 32 (drop (32 * k) air), take-append-drop (32 * k) air) (b .1))
+
+-- what a place that is not refused has, and that a refusal keeps the air
+pub has-place : (air : List ℕ) (k : ℕ) (f : Frame) → placeRefusal air k f ≡ 0 → (k < 2048) × (frameRefusal f ≡ 0) × (length air ≡ 65536)
+unfolding placeRefusal
+has-place air k f h = go (ltb k 2048) refl (eqb (frameRefusal f) 0) refl
+  where
+    go : (a : Bool) → ltb k 2048 ≡ a → (b : Bool) → eqb (frameRefusal f) 0 ≡ b → (k < 2048) × (frameRefusal f ≡ 0) × (length air ≡ 65536)
+    go false p b q = let z : _≡_ {A = ℕ} 6 0 = rw p at h in absurd (omega arith)
+    go true p false q = let z : frameRefusal f ≡ 0 = rw (p, q) at h in absurd (eqb-false (frameRefusal f) 0 q z)
+    go true p true q =
+        let r : _≡_ {A = ℕ} (cond (badAir air) 13 0) 0 = rw (p, q) at h in
+        (ltb-true k 2048 p, eqb-true (frameRefusal f) 0 q, eqb-true (length air) 65536 (not-false _ (passed (badAir air) 13 0 (omega arith) r .0)))
+
+pub kept-air : (air : List ℕ) (k : ℕ) (f : Frame) → (placeRefusal air k f ≡ 0 → ⊥) → airWith air k f ≡ air
+unfolding airWith
+kept-air air k f h = rw (ne-eqb (placeRefusal air k f) 0 h)

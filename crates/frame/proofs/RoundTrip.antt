@@ -36,6 +36,10 @@ unfolding bytesOf tabulate
 entries-join f h =
     simp (pair-joins, h .stamps) (tabulated noEntry (f .entries) 8 (h .count))
 
+pub bytes-length : (f : Frame) → length (bytesOf f) ≡ 32
+unfolding bytesOf
+bytes-length f = refl
+
 pub frame-bytes : (f : Frame) → Fits f → frameOf (bytesOf f) ≡ f
 unfolding frameOf bytesOf
 frame-bytes f h = rw (pair-joins (f .stamp .0) (h .stamp), pair-joins (f .word) (h .word), entries-join f h)

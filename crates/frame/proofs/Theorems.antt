@@ -15,7 +15,7 @@ use Rattle.frame.specs.Refusals.{badLength, badBeacon, frameRefusal, rea
 use Rattle.frame.specs.ReadWrite.{readOf, written}
 use Rattle.frame.specs.declared.Frame.{Frame}
 use Rattle.frame.specs.declared.FrameRead.{FrameRead}
-use Rattle.frame.proofs.Laws.{is-32}
+use Rattle.frame.proofs.Laws.{is-32, written-good}
 use Rattle.frame.proofs.RoundTrip.{frame-bytes, bytes-frame}
 
 -- a refusal that comes to 0 has passed its first test
@@ -44,10 +44,13 @@ pub judged-alike : (f : Frame) → Fits f → readRefusal (bytesOf f) ≡ frameR
 unfolding readRefusal bytesOf
 judged-alike f h = ap frameRefusal (frame-bytes f h)
 
+pub bytes-read : (f : Frame) → Fits f → frameRefusal f ≡ 0 → readOf (bytesOf f) ≡ record { refusal = 0; frame = f }
+unfolding readOf
+bytes-read f h z = rw (judged-alike f h, z, frame-bytes f h)
+
 -- "A written frame reads back as itself": no refusal, and the same frame
 pub reads-back : (buffer : List ℕ) (f : Frame) → Fits f → writeRefusal buffer f ≡ 0 → readOf (written buffer f) ≡ record { refusal = 0; frame = f }
-unfolding readOf written
-reads-back buffer f h e = rw (e, judged-alike f h, writable buffer f e .1, frame-bytes f h)
+reads-back buffer f h e = rw (written-good buffer f e) (bytes-read f h (writable buffer f e .1))
 
 -- "accepted bytes are those that writing gives": the frame that was read is written without refusal, as the bytes that were read
 pub writes-back : (bytes buffer : List ℕ) → Bytes bytes → length buffer ≡ 32 → readOf bytes .refusal ≡ 0 → (writeRefusal buffer (readOf bytes .frame) ≡ 0) × (written buffer (readOf bytes .frame) ≡ bytes)

@@ -46,8 +46,8 @@ is-on-air air frames k h =
     (eqb-true (length air) 65536 (not-false _ (p .0)), ltb-true k frames (b .0), ltb-true k 2048 (b .1))
 
 -- the ways through `stretch`
-pub stretch-good : (air : List ℕ) (frames k n : ℕ) → n ≡ stretchRefusal air frames k → n ≡ 0 → take 32 (drop (32 * k) air) ≡ stretchOf air frames k
-unfolding stretchOf stretchAt
+pub stretch-good : (air : List ℕ) (frames k n : ℕ) → n ≡ stretchRefusal air frames k → n ≡ 0 → stretchAt air k ≡ stretchOf air frames k
+unfolding stretchOf
 stretch-good air frames k n e z = rw (← e, z)
 
 pub stretch-empty : (air : List ℕ) (frames k n : ℕ) → n ≡ stretchRefusal air frames k → (n ≡ 0 → ⊥) → [] ≡ stretchOf air frames k
@@ -68,21 +68,21 @@ unfolding airWith placeRefusal
 write-short-air air k n f h e z l =
     (simp (lt-ltb k 2048 h, ← e, z, ne-eqb (length air) 65536 l), simp (lt-ltb k 2048 h, ← e, z, ne-eqb (length air) 65536 l))
 
-part-length : (air : List ℕ) (k : ℕ) → length air ≡ 65536 → k < 2048 → length (take 32 (drop (32 * k) air)) ≡ 32
-part-length air k l h = simp (length-take, length-drop) (omega arith)
-
 pub write-good : (air : List ℕ) (k : ℕ) (f : Frame) → length air ≡ 65536 → k < 2048 → frameRefusal f ≡ 0 → (placeRefusal air k f ≡ 0) × (airWith air k f ≡ placed air k (bytesOf f))
 unfolding airWith placeRefusal
 write-good air k f l h z =
     (simp (lt-ltb k 2048 h, z, eq-eqb (length air) 65536 l), simp (lt-ltb k 2048 h, z, eq-eqb (length air) 65536 l))
 
+pub stretch-length : (air : List ℕ) (k : ℕ) → length air ≡ 65536 → k < 2048 → length (stretchAt air k) ≡ 32
+stretch-length air k l h = simp (length-take, length-drop) (omega arith)
+
 -- what the frame writer does to the part that it is lent, said of the whole air
-pub write-part : (air part exit : List ℕ) (k n : ℕ) (f : Frame) → length air ≡ 65536 → k < 2048 → part ≡ take 32 (drop (32 * k) air) → n ≡ writeRefusal part f → exit ≡ written part f → (n ≡ placeRefusal air k f) × (take (32 * k) air ++ (exit ++ drop 32 (drop (32 * k) air)) ≡ airWith air k f)
+pub write-part : (air part exit : List ℕ) (k n : ℕ) (f : Frame) → length air ≡ 65536 → k < 2048 → part ≡ stretchAt air k → n ≡ writeRefusal part f → exit ≡ written part f → (n ≡ placeRefusal air k f) × (take (32 * k) air ++ (exit ++ drop 32 (drop (32 * k) air)) ≡ airWith air k f)
 unfolding placed
 write-part air part exit k n f l h p e w = go (eqb (frameRefusal f) 0) refl
   where
     judged : writeRefusal part f ≡ frameRefusal f
-    judged = write-judges part f (rw p (part-length air k l h))
+    judged = write-judges part f (rw p (stretch-length air k l h))
 
     go : (b : Bool) → eqb (frameRefusal f) 0 ≡ b → (n ≡ placeRefusal air k f) × (take (32 * k) air ++ (exit ++ drop 32 (drop (32 * k) air)) ≡ airWith air k f)
     go true q =

@@ -15,14 +15,9 @@ use Rattle.frame.specs.declared.Frame.{Frame}
 use Rattle.frame.proofs.RoundTrip.{bytes-length}
 use Rattle.frame.proofs.Theorems.{bytes-read}
 use Rattle.air.specs.Air.{stretchAt, stretchOf, placeRefusal, placed, airWith}
-use Rattle.air.proofs.Laws.{write-good, has-place, kept-air, on-the-air, stretch-good}
-
-stretch-length : (air : List ℕ) (j : ℕ) → length air ≡ 65536 → j < 2048 → length (stretchAt air j) ≡ 32
-unfolding stretchAt
-stretch-length air j l h = simp (length-take, length-drop) (omega arith)
+use Rattle.air.proofs.Laws.{write-good, has-place, kept-air, on-the-air, stretch-good, stretch-length}
 
 stretch-byte : (air : List ℕ) (j i : ℕ) → i < 32 → getD (stretchAt air j) i 0 ≡ getD air (32 * j + i) 0
-unfolding stretchAt
 stretch-byte air j i l = getD-take 32 (drop (32 * j) air) i 0 l ∙ getD-drop (32 * j) air i 0
 
 module _ (air : List ℕ) (k : ℕ) (bytes : List ℕ) (whole : length air ≡ 65536) (room : k < 2048) (full : length bytes ≡ 32) where
@@ -31,7 +26,7 @@ module _ (air : List ℕ) (k : ℕ) (bytes : List ℕ) (whole : length air ≡ 6
   placed-length = simp (length-append, length-take, length-drop) (omega arith)
 
   pub placed-same : stretchAt (placed air k bytes) k ≡ bytes
-  unfolding placed stretchAt
+  unfolding placed
   placed-same =
       rw (drop-at (take (32 * k) air) (bytes ++ drop 32 (drop (32 * k) air)) (32 * k) (simp length-take (omega arith)), take-at bytes (drop 32 (drop (32 * k) air)) 32 full)
 
@@ -72,7 +67,6 @@ module _ (air : List ℕ) (k : ℕ) (bytes : List ℕ) (whole : length air ≡ 6
 
 -- on the air after a write that was not refused, frame k reads as the frame that was written
 pub reads-as-written : (air : List ℕ) (frames k : ℕ) (f : Frame) → Fits f → placeRefusal air k f ≡ 0 → k < frames → readOf (stretchOf (airWith air k f) frames k) ≡ record { refusal = 0; frame = f }
-unfolding stretchAt
 reads-as-written air frames k f fits z l =
     let p = has-place air k f z in
     let w = write-good air k f (p .2) (p .0) (p .1) .1 in

@@ -21,7 +21,7 @@ unfoldable pub stretchRefusal : List ℕ → ℕ → ℕ → ℕ
 stretchRefusal air frames k = cond (badAir air) 13 (cond (notOnAir frames k) 25 0)
 
 -- "frame k fills bytes 32×k to 32×k+31 of the air"
-unfoldable pub stretchAt : List ℕ → ℕ → List ℕ
+abbrev pub stretchAt : List ℕ → ℕ → List ℕ
 stretchAt air k = take 32 (drop (32 * k) air)
 
 -- "the air gives back that stretch of itself, or an empty stretch when 13 or 25 holds"

@@ -5,6 +5,7 @@ ghost use mathlib.Core.Path.{_≡_};
 ghost use Rattle.air.specs.Air.{stretchRefusal, stretchOf, placeRefusal, airWith};
 
 pub const LENGTH: usize = 65536;
+
 pub const FRAMES: usize = 2048;
 
 // What is said of frame k where `frames` were broadcast: 0, 13 or 25.
@@ -28,8 +29,8 @@ pub fn stretch(air: &[u8], frames: usize, k: usize) -> &[u8]
     ensures { λ r. ⌜ now r ≡ stretchOf (now (air .entry)) frames k ⌝ }
 {
     if refusal(air, frames, k) == 0 {
-        let a = 32 * k;
-        &air[a..a + 32]
+        let start = Frame::LENGTH * k;
+        &air[start..start + Frame::LENGTH]
     } else {
         &air[..0]
     }
@@ -50,7 +51,7 @@ pub fn write(air: &mut [u8], k: usize, f: Frame) -> u8
         }
         return 13;
     }
-    let a = 32 * k;
-    let e = a + 32;
-    f.write(&mut air[a..e])
+    let place = Frame::LENGTH * k;
+    let end = place + Frame::LENGTH;
+    f.write(&mut air[place..end])
 }

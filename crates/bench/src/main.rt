@@ -29,10 +29,18 @@ fn frame_written() {
 fn entries_judged() {
     let mut bytes = FRAME_4;
     bytes[31] = 1;
-    print_numbers(b"P9 entry serial 0 stamp 1", 0, frame::drift_frame_check(&bytes));
+    print_numbers(
+        b"P9 entry serial 0 stamp 1",
+        0,
+        frame::drift_frame_check(&bytes),
+    );
     bytes[29] = 1;
     bytes[31] = 0;
-    print_numbers(b"P9 entry serial 1 stamp 0", 11, frame::drift_frame_check(&bytes));
+    print_numbers(
+        b"P9 entry serial 1 stamp 0",
+        11,
+        frame::drift_frame_check(&bytes),
+    );
 }
 
 fn lengths_judged() {
@@ -42,7 +50,37 @@ fn lengths_judged() {
 }
 
 const FRAME_4: [u8; 32] = [
-    1, 0, 1, 1, 0, 3, 0, 0x5A, 1, 0, 4, 1, 0, 3, 0, 0, 0, 0, 0, 0, 0, 0, 0, 0, 0, 0, 0, 0, 0, 0, 0,
+    1,
+    0,
+    1,
+    1,
+    0,
+    3,
+    0,
+    0x5A,
+    1,
+    0,
+    4,
+    1,
+    0,
+    3,
+    0,
+    0,
+    0,
+    0,
+    0,
+    0,
+    0,
+    0,
+    0,
+    0,
+    0,
+    0,
+    0,
+    0,
+    0,
+    0,
+    0,
     0,
 ];
 

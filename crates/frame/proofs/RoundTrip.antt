@@ -5,7 +5,7 @@ use Prim.Native.Nat.{ℕ, zero, suc, _+_, _*_, _/_, _%_, _<_}
 use native.Mathlib.Omega.{arith}
 use lib.ListN.{length, getD}
 use Rattle.frame.specs.Lanes.{lanes}
-use Rattle.frame.specs.Layout.{Fits, Bytes, byteAt, entryAt, entryOf, noEntry, entriesOf, frameOf, bytesOf}
+use Rattle.frame.specs.Layout.{Fits, AreBytes, byteAt, entryAt, entryOf, noEntry, entriesOf, frameOf, bytesOf}
 use Rattle.frame.specs.declared.Entry.{Entry}
 use Rattle.frame.specs.declared.Frame.{Frame}
 
@@ -44,6 +44,6 @@ pub frame-bytes : (f : Frame) → Fits f → frameOf (bytesOf f) ≡ f
 unfolding frameOf bytesOf
 frame-bytes f h = rw (pair-joins (f .stamp .0) (h .stamp), pair-joins (f .word) (h .word), entries-join f h)
 
-pub bytes-frame : (l : List ℕ) → length l ≡ 32 → Bytes l → bytesOf (frameOf l) ≡ l
+pub bytes-frame : (l : List ℕ) → length l ≡ 32 → AreBytes l → bytesOf (frameOf l) ≡ l
 unfolding frameOf bytesOf tabulate
 bytes-frame l e h = simp (pair-high, pair-low, h) (tabulated 0 l 32 e)

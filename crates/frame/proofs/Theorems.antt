@@ -10,7 +10,7 @@ use borrow.Author.Tests.{eqb-true, ne-eqb}
 use lib.Dec.{eqb}
 use lib.ListN.{length}
 use Rattle.frame.specs.Lanes.{anyBelow}
-use Rattle.frame.specs.Layout.{Fits, Bytes, byteAt, frameOf, bytesOf}
+use Rattle.frame.specs.Layout.{Fits, AreBytes, byteAt, frameOf, bytesOf}
 use Rattle.frame.specs.Refusals.{badLength, badBeacon, frameRefusal, readRefusal, writeRefusal}
 use Rattle.frame.specs.ReadWrite.{readOf, written}
 use Rattle.frame.specs.declared.Frame.{Frame}
@@ -53,7 +53,7 @@ pub reads-back : (buffer : List ℕ) (f : Frame) → Fits f → writeRefusal buf
 reads-back buffer f h e = rw (written-good buffer f e) (bytes-read f h (writable buffer f e .1))
 
 -- "accepted bytes are those that writing gives": the frame that was read is written without refusal, as the bytes that were read
-pub writes-back : (bytes buffer : List ℕ) → Bytes bytes → length buffer ≡ 32 → readOf bytes .refusal ≡ 0 → (writeRefusal buffer (readOf bytes .frame) ≡ 0) × (written buffer (readOf bytes .frame) ≡ bytes)
+pub writes-back : (bytes buffer : List ℕ) → AreBytes bytes → length buffer ≡ 32 → readOf bytes .refusal ≡ 0 → (writeRefusal buffer (readOf bytes .frame) ≡ 0) × (written buffer (readOf bytes .frame) ≡ bytes)
 unfolding readOf written writeRefusal
 writes-back bytes buffer h l e =
     let r = readable bytes e in

@@ -79,5 +79,5 @@ pub record Fits (f : Frame) : Type 0 where
   pub count : length (f .entries) ≡ 8
   pub stamps : (lane : ℕ) → entryOf f lane .stamp .0 < 65536
 
-abbrev pub Bytes : List ℕ → Type 0
-Bytes l = (i : ℕ) → byteAt l i < 256
+abbrev pub AreBytes : List ℕ → Type 0
+AreBytes l = (i : ℕ) → byteAt l i < 256

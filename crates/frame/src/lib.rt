@@ -42,8 +42,13 @@ pub struct FrameRead {
 
 impl Frame {
     pub const LENGTH: usize = 32;
-    pub const LANES: u8 = 8;
+
+    pub const LANES: usize = 8;
+
+    pub const LAST_LANE: u8 = 7;
+
     pub const ORDER: u8 = 1;
+
     pub const BEACON: u8 = 2;
 
     // The frame that these bytes lay out, or the refusal 6 to 11.
@@ -55,12 +60,12 @@ impl Frame {
             return refused(6);
         }
         let frame = frame_of(bytes);
-        let refusal = frame.refusal();
-        if refusal != 0 {
-            return refused(refusal);
+        let number = frame.refusal();
+        if number != 0 {
+            return refused(number);
         }
         FrameRead {
-            refusal: refusal,
+            refusal: number,
             frame: frame,
         }
     }
@@ -209,13 +214,16 @@ fn bad_order(f: Frame) -> bool
     ensures { λ r. ⌜ r ≡ badOrder f ⌝ }
 {
     (f.kind == Frame::ORDER)
-        & ((f.lane > 7) | (f.serial.0 == 0) | (f.serial.0 > Serial::LAST) | (f.stamp.0 == 0))
+        & ((f.lane > Frame::LAST_LANE)
+            | (f.serial.0 == 0)
+            | (f.serial.0 > Serial::LAST)
+            | (f.stamp.0 == 0))
 }
 
 fn bad_sender(f: Frame) -> bool
     ensures { λ r. ⌜ r ≡ badSender f ⌝ }
 {
-    f.sender > 7
+    f.sender > Frame::LAST_LANE
 }
 
 fn bad_entry(e: Entry) -> bool
@@ -229,7 +237,7 @@ fn bad_entries(f: Frame) -> bool
 {
     let mut bad = false;
     let mut lane = 0;
-    while lane < 8 {
+    while lane < Frame::LANES {
         bad = bad | bad_entry(f.entries[lane]);
         lane += 1;
     }
@@ -282,7 +290,7 @@ fn copy(buffer: &mut [u8], bytes: [u8; 32])
     ensures { λ _. ⌜ now (buffer .exit) ≡ bytes ⌝ }
 {
     let mut i = 0;
-    while i < 32 {
+    while i < Frame::LENGTH {
         buffer[i] = bytes[i];
         i += 1;
     }

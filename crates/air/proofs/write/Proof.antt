@@ -1,3 +1,4 @@
+use native.Mathlib.Omega.{arith}
 use borrow.Author.Needs.{needs}
 use native.Mathlib.Nat.{add-sub-cancel-left}
 use Rattle.air.proofs.Laws.{write-no-place, write-bad, write-short-air, write-part}
@@ -5,13 +6,13 @@ use Rattle.air.proofs.write.Statement.{statement}
 use Rattle.air.proofs.write.Tie as tie
 
 returns : tie.Need-returns
-returns c = write-no-place _ _ _ (c .if1 .taken)
+returns c = write-no-place _ _ _ (omega arith)
 
 returns-2 : tie.Need-returns-2
-returns-2 c = write-bad _ _ _ _ (c .before .before .before .if1 .left) (c .before .refusal .ensures) (c .if3 .taken)
+returns-2 c = write-bad _ _ _ _ (omega arith) (c .before .refusal .ensures) (c .if3 .taken)
 
 returns-3 : tie.Need-returns-3
-returns-3 c = write-short-air _ _ _ _ (c .before .before .before .if1 .left) (c .before .refusal .ensures) (c .if3 .left) (c .before .before .if2 .taken)
+returns-3 c = write-short-air _ _ _ _ (omega arith) (c .before .refusal .ensures) (c .if3 .left) (c .before .before .if2 .taken)
 
 returns-4 : tie.Need-returns-4
 returns-4 c =

@@ -10,11 +10,11 @@ use Rattle.frame.proofs.Frame.write.Statement.{statement}
 use Rattle.frame.proofs.Frame.write.Tie as tie
 
 returns : tie.Need-returns
-returns c = let w = write-short _ _ (c .if1 .taken) in (w .0, (w .1, λ z. absurd (omega arith)))
+returns c = let w = write-short (c .before .before .args .buffer .now) _ (λ e. omega (arith, c .if1 .taken)) in (w .0, (w .1, λ z. absurd (omega arith)))
 
 returns-2 : tie.Need-returns-2
 returns-2 c =
-    let w = write-refused _ _ _ (c .before .before .if1 .left) (c .before .refusal .ensures) (c .if2 .taken) in
+    let w = write-refused (c .before .before .before .before .args .buffer .now) _ _ (omega arith) (c .before .refusal .ensures) (c .if2 .taken) in
     (w .0, (w .1, λ z. absurd (c .if2 .taken z)))
 
 returns-3 : tie.Need-returns-3
@@ -22,11 +22,11 @@ returns-3 c =
     let self = c .before .before .before .before .before .before .before .before .before .args .self in
     let entries = c .before .before .before .before .before .before .before .before .before .good .0 .1 .1 .1 .1 .1 .1 .1 .1 .0 in
     let fits : Fits self =
-      record { stamp = search needs; word = search needs; count = simp length-map at (entries .1 .0 .1); stamps = stamps-fit (self .entries) (entries .0) (entries .1 .1) } in
+    record { stamp = search needs; word = search needs; count = simp length-map at (entries .1 .0 .1); stamps = stamps-fit (self .entries) (entries .0) (entries .1 .1) } in
     let w =
-      write-accepted _ _ _ _ _ (c .before .before .before .before .before .before .before .if1 .left) (c .before .before .before .before .before .before .refusal .ensures) (c .before .before .before .before .before .if2 .left)
-      (c .before .before .before .before .bytes-of .ensures)
-      (c .before .before .copy .ensures) in
+    write-accepted (c .before .before .before .before .before .before .before .before .before .args .buffer .now) _ _ _ _ (omega arith) (c .before .before .before .before .before .before .refusal .ensures) (c .before .before .before .before .before .if2 .left)
+    (c .before .before .before .before .bytes-of .ensures)
+    (c .before .before .copy .ensures) in
     (w .0, (w .1, λ z. rw (w .1) (reads-back _ _ fits (sym (w .0)))))
 
 pub write-spec : {M : Type 1} → statement M

@@ -11,8 +11,7 @@ use Rattle.frame.specs.Layout.{bytesOf}
 use Rattle.frame.specs.Refusals.{frameRefusal, writeRefusal}
 use Rattle.frame.specs.ReadWrite.{written}
 use Rattle.frame.specs.declared.Frame.{Frame}
-use Rattle.frame.proofs.Laws.{write-judges, written-good, written-bad}
-use Rattle.frame.proofs.Theorems.{passed}
+use Rattle.frame.proofs.Laws.{passed, write-judges, written-good, written-bad}
 use Rattle.air.specs.Air.{badAir, notOnAir, stretchRefusal, stretchAt, stretchOf, placeRefusal, placed, airWith}
 
 -- the ways through `refusal`
@@ -59,16 +58,19 @@ pub write-no-place : (air : List ℕ) (k : ℕ) (f : Frame) → 2048 ≤ k → (
 unfolding airWith placeRefusal
 write-no-place air k f h = (simp (le-ltb k 2048 h), simp (le-ltb k 2048 h))
 
-pub write-bad : (air : List ℕ) (k n : ℕ) (f : Frame) → k < 2048 → n ≡ frameRefusal f → (n ≡ 0 → ⊥) → (n ≡ placeRefusal air k f) × (air ≡ airWith air k f)
+pub write-bad : (air : List ℕ) (k n : ℕ) (f : Frame) → k < 2048 → n ≡ frameRefusal f → (n ≡ 0 → ⊥)
+    → (n ≡ placeRefusal air k f) × (air ≡ airWith air k f)
 unfolding airWith placeRefusal
 write-bad air k n f h e z = (simp (lt-ltb k 2048 h, ← e, ne-eqb n 0 z), simp (lt-ltb k 2048 h, ← e, ne-eqb n 0 z))
 
-pub write-short-air : (air : List ℕ) (k n : ℕ) (f : Frame) → k < 2048 → n ≡ frameRefusal f → n ≡ 0 → (length air ≡ 65536 → ⊥) → (13 ≡ placeRefusal air k f) × (air ≡ airWith air k f)
+pub write-short-air : (air : List ℕ) (k n : ℕ) (f : Frame) → k < 2048 → n ≡ frameRefusal f → n ≡ 0 → (length air ≡ 65536 → ⊥)
+    → (13 ≡ placeRefusal air k f) × (air ≡ airWith air k f)
 unfolding airWith placeRefusal
 write-short-air air k n f h e z l =
     (simp (lt-ltb k 2048 h, ← e, z, ne-eqb (length air) 65536 l), simp (lt-ltb k 2048 h, ← e, z, ne-eqb (length air) 65536 l))
 
-pub write-good : (air : List ℕ) (k : ℕ) (f : Frame) → length air ≡ 65536 → k < 2048 → frameRefusal f ≡ 0 → (placeRefusal air k f ≡ 0) × (airWith air k f ≡ placed air k (bytesOf f))
+pub write-good : (air : List ℕ) (k : ℕ) (f : Frame) → length air ≡ 65536 → k < 2048 → frameRefusal f ≡ 0
+    → (placeRefusal air k f ≡ 0) × (airWith air k f ≡ placed air k (bytesOf f))
 unfolding airWith placeRefusal
 write-good air k f l h z =
     (simp (lt-ltb k 2048 h, z, eq-eqb (length air) 65536 l), simp (lt-ltb k 2048 h, z, eq-eqb (length air) 65536 l))
@@ -77,14 +79,17 @@ pub stretch-length : (air : List ℕ) (k : ℕ) → length air ≡ 65536 → k <
 stretch-length air k l h = simp (length-take, length-drop) (omega arith)
 
 -- what the frame writer does to the part that it is lent, said of the whole air
-pub write-part : (air part exit : List ℕ) (k n : ℕ) (f : Frame) → length air ≡ 65536 → k < 2048 → part ≡ stretchAt air k → n ≡ writeRefusal part f → exit ≡ written part f → (n ≡ placeRefusal air k f) × (take (32 * k) air ++ (exit ++ drop 32 (drop (32 * k) air)) ≡ airWith air k f)
+pub write-part : (air part exit : List ℕ) (k n : ℕ) (f : Frame) → length air ≡ 65536 → k < 2048 → part ≡ stretchAt air k
+    → n ≡ writeRefusal part f → exit ≡ written part f
+    → (n ≡ placeRefusal air k f) × (take (32 * k) air ++ (exit ++ drop 32 (drop (32 * k) air)) ≡ airWith air k f)
 unfolding placed
 write-part air part exit k n f l h p e w = go (eqb (frameRefusal f) 0) refl
   where
     judged : writeRefusal part f ≡ frameRefusal f
     judged = write-judges part f (rw p (stretch-length air k l h))
 
-    go : (b : Bool) → eqb (frameRefusal f) 0 ≡ b → (n ≡ placeRefusal air k f) × (take (32 * k) air ++ (exit ++ drop 32 (drop (32 * k) air)) ≡ airWith air k f)
+    go : (b : Bool) → eqb (frameRefusal f) 0 ≡ b
+        → (n ≡ placeRefusal air k f) × (take (32 * k) air ++ (exit ++ drop 32 (drop (32 * k) air)) ≡ airWith air k f)
     go true q =
         let z : frameRefusal f ≡ 0 = eqb-true (frameRefusal f) 0 q in
         let g = write-good air k f l h z in

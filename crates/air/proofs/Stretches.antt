@@ -66,7 +66,8 @@ module _ (air : List ℕ) (k : ℕ) (bytes : List ℕ) (whole : length air ≡ 6
       long = stretch-length (placed air k bytes) j placed-length l
 
 -- on the air after a write that was not refused, frame k reads as the frame that was written
-pub reads-as-written : (air : List ℕ) (frames k : ℕ) (f : Frame) → Fits f → placeRefusal air k f ≡ 0 → k < frames → readOf (stretchOf (airWith air k f) frames k) ≡ record { refusal = 0; frame = f }
+pub reads-as-written : (air : List ℕ) (frames k : ℕ) (f : Frame) → Fits f → placeRefusal air k f ≡ 0 → k < frames
+    → readOf (stretchOf (airWith air k f) frames k) ≡ record { refusal = 0; frame = f }
 reads-as-written air frames k f fits z l =
     let p = has-place air k f z in
     let w = write-good air k f (p .2) (p .0) (p .1) .1 in

@@ -3,14 +3,18 @@ use Prim.Native.Nat.{ℕ}
 use mathlib.Core.Path.{_≡_}
 use mathlib.Core.List.{List, [], _∷_, _++_}
 use lib.ListN.{replicate, take, set}
-use Rattle.frame.specs.Layout.{noEntry, bytesOf}
+use Rattle.frame.specs.Layout.{noEntry}
 use Rattle.frame.specs.Refusals.{readRefusal, writeRefusal}
 use Rattle.frame.specs.ReadWrite.{readOf, written}
+use Rattle.frame.specs.declared.Entry.{Entry}
 use Rattle.frame.specs.declared.Frame.{Frame}
 
 -- P2: "01 00 01 01 00 03 00 5A 01 00 04 01 00 03, then eighteen 00"
 abbrev pub frame4Bytes : List ℕ
 frame4Bytes = 0x01 ∷ 0x00 ∷ 0x01 ∷ 0x01 ∷ 0x00 ∷ 0x03 ∷ 0x00 ∷ 0x5a ∷ 0x01 ∷ 0x00 ∷ 0x04 ∷ 0x01 ∷ 0x00 ∷ 0x03 ∷ replicate 18 0x00
+
+abbrev pub entry : ℕ → ℕ → Entry
+entry serial stamp = record { serial = record { 0 = serial }; stamp = record { 0 = stamp } }
 
 -- order 1 of lane 1, stamp 3, word 90, broadcast by lane 0, which knows stamp 4 of lane 0 and stamp 3 of lane 1
 abbrev pub frame4 : Frame
@@ -21,7 +25,7 @@ frame4 = record {
   serial = record { 0 = 1 };
   stamp = record { 0 = 3 };
   word = 90;
-  entries = record { serial = record { 0 = 1 }; stamp = record { 0 = 4 } } ∷ record { serial = record { 0 = 1 }; stamp = record { 0 = 3 } } ∷ replicate 6 noEntry;
+  entries = entry 1 4 ∷ entry 1 3 ∷ replicate 6 noEntry;
 }
 
 -- frame 4 with another entry of lane 7

@@ -1,12 +1,13 @@
 -- Laws that the proofs of functions cite. Assumes nothing.
-use mathlib.Core.Path.{_≡_, ap, ap₂}
+use mathlib.Core.Path.{_≡_, refl, _∙_, ap₂}
 use mathlib.Core.Bool.{Bool, true, false, cond, _||_}
-use mathlib.Core.List.{List, [], _∷_, _++_}
+use mathlib.Core.List.{List, _++_, append-nil}
 use Prim.Native.Nat.{ℕ, _+_, _<_}
 use native.Mathlib.Numerals.{add-one}
-use borrow.Author.Tests.{eq-eqb, ne-eqb}
-use lib.ListN.{length, take, set, getD}
-use lib.Seq.{take-suc, take-suc-set}
+use native.Mathlib.Omega.{arith}
+use borrow.Author.Tests.{eq-eqb, ne-eqb, eqb-true, not-false}
+use lib.ListN.{length, take, drop, drop-of-length-le}
+use lib.Seq.{take-length}
 use Rattle.frame.specs.Lanes.{anyBelow}
 use Rattle.frame.specs.Layout.{frameOf, bytesOf, joined, fieldBytes}
 use Rattle.frame.specs.Refusals.{badLength, frameRefusal, readRefusal, writeRefusal}
@@ -19,9 +20,11 @@ pub any-more : (test : ℕ → Bool) (n : ℕ) (b x : Bool) → b ≡ anyBelow t
 unfolding anyBelow
 any-more test n b x p q = rw add-one (ap₂ _||_ p q)
 
--- one element more is copied
-pub copied : (d s : List ℕ) (i : ℕ) → i < length d → i < length s → take i d ≡ take i s → take (i + 1) (set d i (getD s i 0)) ≡ take (i + 1) s
-copied d s i hd hs e = rw (add-one, take-suc-set, take-suc s i 0) (ap (λ (l : List ℕ). l ++ (getD s i 0 ∷ [])) e)
+-- 32 bytes copied onto 32
+pub copied : (bytes buffer exit : List ℕ) → length bytes ≡ 32 → length buffer ≡ 32
+    → exit ≡ take (length bytes) bytes ++ drop (length bytes) buffer
+    → exit ≡ bytes
+copied bytes buffer exit p q e = e ∙ rw (take-length, drop-of-length-le buffer {i = length bytes} (omega arith)) (append-nil bytes)
 
 -- a chain of refusals ends at a test b that holds, and goes on past one that does not
 pub stops : (t b : Bool) (n r : ℕ) → b ≡ t → b ≡ true → n ≡ cond t n r
@@ -37,16 +40,38 @@ not-32 l r h = simp (ne-eqb (length l) 32 h)
 pub is-32 : (l : List ℕ) (r : ℕ) → length l ≡ 32 → cond (badLength l) 6 r ≡ r
 is-32 l r h = simp (eq-eqb (length l) 32 h)
 
+-- a refusal that comes to 0 has passed its first test
+pub passed : (t : Bool) (k r : ℕ) → 0 < k → cond t k r ≡ 0 → (t ≡ false) × (r ≡ 0)
+passed true k r h e = absurd (omega arith)
+passed false k r h e = (refl, e)
+
+-- what is not refused has 32 bytes, and fields without a refusal
+accepted : (l : List ℕ) (r : ℕ) → cond (badLength l) 6 r ≡ 0 → (length l ≡ 32) × (r ≡ 0)
+accepted l r h =
+    let p = passed (badLength l) 6 r (omega arith) h in
+    (eqb-true (length l) 32 (not-false _ (p .0)), p .1)
+
+pub readable : (bytes : List ℕ) → readRefusal bytes ≡ 0 → (length bytes ≡ 32) × (frameRefusal (frameOf bytes) ≡ 0)
+unfolding readRefusal
+readable bytes h = accepted bytes (frameRefusal (frameOf bytes)) h
+
+pub writable : (buffer : List ℕ) (f : Frame) → writeRefusal buffer f ≡ 0 → (length buffer ≡ 32) × (frameRefusal f ≡ 0)
+unfolding writeRefusal
+writable buffer f h = accepted buffer (frameRefusal f) h
+
 -- the ways through `read`
 pub read-short : (bytes : List ℕ) (r : FrameRead) → (length bytes ≡ 32 → ⊥) → r ≡ refusedRead 6 → r ≡ readOf bytes
 unfolding readOf readRefusal
 read-short bytes r h e = rw (not-32 bytes (frameRefusal (frameOf bytes)) h) e
 
-pub read-refused : (bytes : List ℕ) (f : Frame) (n : ℕ) (r : FrameRead) → length bytes ≡ 32 → f ≡ frameOf bytes → n ≡ frameRefusal f → (n ≡ 0 → ⊥) → r ≡ refusedRead n → r ≡ readOf bytes
+pub read-refused : (bytes : List ℕ) (f : Frame) (n : ℕ) (r : FrameRead) → length bytes ≡ 32 → f ≡ frameOf bytes → n ≡ frameRefusal f
+    → (n ≡ 0 → ⊥) → r ≡ refusedRead n
+    → r ≡ readOf bytes
 unfolding readOf readRefusal
 read-refused bytes f n r l p q h e = rw (is-32 bytes (frameRefusal (frameOf bytes)) l, ← p, ← q, ne-eqb n 0 h) e
 
-pub read-accepted : (bytes : List ℕ) (f : Frame) (n : ℕ) → length bytes ≡ 32 → f ≡ frameOf bytes → n ≡ frameRefusal f → n ≡ 0 → _≡_ {A = FrameRead} (record { refusal = n; frame = f }) (readOf bytes)
+pub read-accepted : (bytes : List ℕ) (f : Frame) (n : ℕ) → length bytes ≡ 32 → f ≡ frameOf bytes → n ≡ frameRefusal f → n ≡ 0
+    → _≡_ {A = FrameRead} (record { refusal = n; frame = f }) (readOf bytes)
 unfolding readOf readRefusal
 read-accepted bytes f n l p q z = rw (is-32 bytes (frameRefusal (frameOf bytes)) l, ← p, ← q, z)
 
@@ -68,12 +93,15 @@ pub write-short : (buffer : List ℕ) (f : Frame) → (length buffer ≡ 32 → 
 unfolding written writeRefusal
 write-short buffer f h = (rw (not-32 buffer (frameRefusal f) h), rw (not-32 buffer (frameRefusal f) h))
 
-pub write-refused : (buffer : List ℕ) (f : Frame) (n : ℕ) → length buffer ≡ 32 → n ≡ frameRefusal f → (n ≡ 0 → ⊥) → (n ≡ writeRefusal buffer f) × (buffer ≡ written buffer f)
+pub write-refused : (buffer : List ℕ) (f : Frame) (n : ℕ) → length buffer ≡ 32 → n ≡ frameRefusal f → (n ≡ 0 → ⊥)
+    → (n ≡ writeRefusal buffer f) × (buffer ≡ written buffer f)
 unfolding written writeRefusal
 write-refused buffer f n l q h =
     (rw (is-32 buffer (frameRefusal f) l) q, rw (is-32 buffer (frameRefusal f) l, ← q, ne-eqb n 0 h))
 
-pub write-accepted : (buffer bytes exit : List ℕ) (f : Frame) (n : ℕ) → length buffer ≡ 32 → n ≡ frameRefusal f → n ≡ 0 → bytes ≡ joined (fieldBytes f) → exit ≡ bytes → (0 ≡ writeRefusal buffer f) × (exit ≡ written buffer f)
+pub write-accepted : (buffer bytes exit : List ℕ) (f : Frame) (n : ℕ) → length buffer ≡ 32 → n ≡ frameRefusal f → n ≡ 0
+    → bytes ≡ joined (fieldBytes f) → exit ≡ bytes
+    → (0 ≡ writeRefusal buffer f) × (exit ≡ written buffer f)
 unfolding written writeRefusal bytesOf
 write-accepted buffer bytes exit f n l q z p e =
     (rw (is-32 buffer (frameRefusal f) l, ← q, z), rw (is-32 buffer (frameRefusal f) l, ← q, z, e, p))

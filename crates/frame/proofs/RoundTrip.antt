@@ -1,12 +1,10 @@
--- A written frame reads back as itself, and accepted bytes are those that writing gives. Assumes nothing.
-use mathlib.Core.Path.{_≡_, refl, sym, ap, _∙_}
-use mathlib.Core.List.{List, [], _∷_, map}
+-- The layout both ways: from a frame to bytes and back, and from bytes to a frame and back. Assumes nothing.
+use mathlib.Core.Path.{_≡_, refl, ap}
+use mathlib.Core.List.{List, [], _∷_}
 use Prim.Native.Nat.{ℕ, zero, suc, _+_, _*_, _/_, _%_, _<_}
 use native.Mathlib.Omega.{arith}
 use lib.ListN.{length, getD}
-use Rattle.frame.specs.Lanes.{lanes}
-use Rattle.frame.specs.Layout.{Fits, AreBytes, byteAt, entryAt, entryOf, noEntry, entriesOf, frameOf, bytesOf}
-use Rattle.frame.specs.declared.Entry.{Entry}
+use Rattle.frame.specs.Layout.{Fits, AreBytes, noEntry, entriesOf, frameOf, bytesOf}
 use Rattle.frame.specs.declared.Frame.{Frame}
 
 -- a list is the list of its elements

@@ -42,7 +42,7 @@ frameOf bytes = record {
 abbrev pub noEntry : Entry
 noEntry = record { serial = record { 0 = 0 }; stamp = record { 0 = 0 } }
 
--- the entry of a lane
+-- a frame's entry of a lane
 abbrev pub entryOf : Frame → ℕ → Entry
 entryOf f lane = getD (f .entries) lane noEntry
 
@@ -50,9 +50,11 @@ entryOf f lane = getD (f .entries) lane noEntry
 abbrev pub pairBytes : ℕ → List ℕ
 pairBytes n = n / 256 % 256 ∷ n % 256 ∷ []
 
+-- the three bytes of an entry: serial, stamp
 abbrev pub entryBytes : Entry → List ℕ
 entryBytes e = e .serial .0 ∷ pairBytes (e .stamp .0)
 
+-- lists one after another
 abbrev pub joined : List (List ℕ) → List ℕ
 joined [] = []
 joined (l ∷ ls) = l ++ joined ls
@@ -72,12 +74,13 @@ fieldBytes f =
 unfoldable pub bytesOf : Frame → List ℕ
 bytesOf f = joined (fieldBytes f)
 
--- what every value of the type `Frame` has, and every value of the type `&[u8]`
+-- what every value of the type `Frame` has: eight entries, and stamps and word of 16 bits
 pub record Fits (f : Frame) : Type 0 where
   pub stamp : f .stamp .0 < 65536
   pub word : f .word < 65536
   pub count : length (f .entries) ≡ 8
   pub stamps : (lane : ℕ) → entryOf f lane .stamp .0 < 65536
 
+-- what every value of the type `&[u8]` has
 abbrev pub AreBytes : List ℕ → Type 0
 AreBytes l = (i : ℕ) → byteAt l i < 256

@@ -1,13 +1,14 @@
 // The frame of document 01, "Frames and the air": 32 bytes, big-endian, judged by 6 to 11, read and written.
 // The contracts cite specs/Layout.antt, specs/Refusals.antt and specs/ReadWrite.antt.
+mod layout;
+mod refusals;
+
 ghost use mathlib.Core.Path.{_≡_};
-ghost use Prim.Native.Nat.{_+_, _*_, _<_};
-ghost use lib.ListN.{length};
-ghost use Rattle.frame.specs.Layout.{pairAt, entryAt, entriesOf, frameOf, bytesOf, joined, fieldBytes};
-ghost use Rattle.frame.specs.Refusals.{badKind, badBeacon, badOrder, badSender, badEntry, badEntries, frameRefusal, readRefusal, writeRefusal};
+ghost use Rattle.frame.specs.Layout.{bytesOf};
+ghost use Rattle.frame.specs.Refusals.{frameRefusal, readRefusal, writeRefusal};
 ghost use Rattle.frame.specs.ReadWrite.{refusedRead, readOf, written};
 
-// A count of one lane's own orders (a per-source sequence number).
+// A count of one lane's own orders (a per-source sequence number), 1 to 16; entries also have 0.
 pub struct Serial(pub u8);
 
 impl Serial {
@@ -17,13 +18,13 @@ impl Serial {
 // A reading of a source's logical clock (a Lamport timestamp); 0 means none.
 pub struct Stamp(pub u16);
 
-// A lane's newest stamp as a broadcast carries it, with the serial that it stands under.
+// A lane's newest stamp and the serial that it stands under, as a broadcast carries them; all zero is none.
 pub struct Entry {
     pub serial: Serial,
     pub stamp: Stamp,
 }
 
-// A broadcast: an order frame (a flooded message) or a beacon (a message of entries alone).
+// A broadcast: an order frame (a flooded message) or a beacon (entries alone), with an entry for each lane.
 pub struct Frame {
     pub kind: u8,
     pub sender: u8,
@@ -59,7 +60,7 @@ impl Frame {
         if bytes.len() != Frame::LENGTH {
             return refused(6);
         }
-        let frame = frame_of(bytes);
+        let frame = layout::frame_of(bytes);
         let number = frame.refusal();
         if number != 0 {
             return refused(number);
@@ -83,8 +84,8 @@ impl Frame {
         if refusal != 0 {
             return refusal;
         }
-        let bytes = bytes_of(self);
-        copy(buffer, bytes);
+        let frame = layout::bytes_of(self);
+        bytes::copy(&frame, buffer);
         0
     }
 
@@ -92,19 +93,19 @@ impl Frame {
     pub fn refusal(self) -> u8
         ensures { λ r. ⌜ r ≡ frameRefusal self ⌝ }
     {
-        if bad_kind(self) {
+        if refusals::bad_kind(self) {
             return 7;
         }
-        if bad_beacon(self) {
+        if refusals::bad_beacon(self) {
             return 8;
         }
-        if bad_order(self) {
+        if refusals::bad_order(self) {
             return 9;
         }
-        if bad_sender(self) {
+        if refusals::bad_sender(self) {
             return 10;
         }
-        if bad_entries(self) {
+        if refusals::bad_entries(self) {
             return 11;
         }
         0
@@ -139,159 +140,5 @@ fn refused(number: u8) -> FrameRead
     FrameRead {
         refusal: number,
         frame: frame,
-    }
-}
-
-fn pair(high: u8, low: u8) -> u16
-    ensures { λ r. ⌜ r ≡ 256 * high + low ⌝ }
-{
-    256 * (high as u16) + (low as u16)
-}
-
-fn pair_at(bytes: &[u8], i: usize) -> u16
-    requires { ⌜ i + 1 < length (now bytes) ⌝ }
-    ensures { λ r. ⌜ r ≡ pairAt (now (bytes .entry)) i ⌝ }
-{
-    pair(bytes[i], bytes[i + 1])
-}
-
-fn entry_at(bytes: &[u8], i: usize) -> Entry
-    requires { ⌜ i + 2 < length (now bytes) ⌝ }
-    ensures { λ r. ⌜ r ≡ entryAt (now (bytes .entry)) i ⌝ }
-{
-    Entry {
-        serial: Serial(bytes[i]),
-        stamp: Stamp(pair_at(bytes, i + 1)),
-    }
-}
-
-fn entries_of(bytes: &[u8]) -> [Entry; 8]
-    requires { ⌜ length (now bytes) ≡ 32 ⌝ }
-    ensures { λ r. ⌜ r ≡ entriesOf (now (bytes .entry)) ⌝ }
-{
-    [
-        entry_at(bytes, 8),
-        entry_at(bytes, 11),
-        entry_at(bytes, 14),
-        entry_at(bytes, 17),
-        entry_at(bytes, 20),
-        entry_at(bytes, 23),
-        entry_at(bytes, 26),
-        entry_at(bytes, 29),
-    ]
-}
-
-fn frame_of(bytes: &[u8]) -> Frame
-    requires { ⌜ length (now bytes) ≡ 32 ⌝ }
-    ensures { λ r. ⌜ r ≡ frameOf (now (bytes .entry)) ⌝ }
-{
-    let entries = entries_of(bytes);
-    Frame {
-        kind: bytes[0],
-        sender: bytes[1],
-        lane: bytes[2],
-        serial: Serial(bytes[3]),
-        stamp: Stamp(pair_at(bytes, 4)),
-        word: pair_at(bytes, 6),
-        entries: entries,
-    }
-}
-
-fn bad_kind(f: Frame) -> bool
-    ensures { λ r. ⌜ r ≡ badKind f ⌝ }
-{
-    (f.kind != Frame::ORDER) & (f.kind != Frame::BEACON)
-}
-
-fn bad_beacon(f: Frame) -> bool
-    ensures { λ r. ⌜ r ≡ badBeacon f ⌝ }
-{
-    (f.kind == Frame::BEACON)
-        & ((f.lane != 0) | (f.serial.0 != 0) | (f.stamp.0 != 0) | (f.word != 0))
-}
-
-fn bad_order(f: Frame) -> bool
-    ensures { λ r. ⌜ r ≡ badOrder f ⌝ }
-{
-    (f.kind == Frame::ORDER)
-        & ((f.lane > Frame::LAST_LANE)
-            | (f.serial.0 == 0)
-            | (f.serial.0 > Serial::LAST)
-            | (f.stamp.0 == 0))
-}
-
-fn bad_sender(f: Frame) -> bool
-    ensures { λ r. ⌜ r ≡ badSender f ⌝ }
-{
-    f.sender > Frame::LAST_LANE
-}
-
-fn bad_entry(e: Entry) -> bool
-    ensures { λ r. ⌜ r ≡ badEntry e ⌝ }
-{
-    (e.serial.0 > Serial::LAST) | ((e.stamp.0 == 0) & (e.serial.0 != 0))
-}
-
-fn bad_entries(f: Frame) -> bool
-    ensures { λ r. ⌜ r ≡ badEntries f ⌝ }
-{
-    let mut bad = false;
-    let mut lane = 0;
-    while lane < Frame::LANES {
-        bad = bad | bad_entry(f.entries[lane]);
-        lane += 1;
-    }
-    bad
-}
-
-fn bytes_of(f: Frame) -> [u8; 32]
-    ensures { λ r. ⌜ r ≡ joined (fieldBytes f) ⌝ }
-{
-    let e = f.entries;
-    [
-        f.kind,
-        f.sender,
-        f.lane,
-        f.serial.0,
-        (f.stamp.0 / 256 % 256) as u8,
-        (f.stamp.0 % 256) as u8,
-        (f.word / 256 % 256) as u8,
-        (f.word % 256) as u8,
-        e[0].serial.0,
-        (e[0].stamp.0 / 256 % 256) as u8,
-        (e[0].stamp.0 % 256) as u8,
-        e[1].serial.0,
-        (e[1].stamp.0 / 256 % 256) as u8,
-        (e[1].stamp.0 % 256) as u8,
-        e[2].serial.0,
-        (e[2].stamp.0 / 256 % 256) as u8,
-        (e[2].stamp.0 % 256) as u8,
-        e[3].serial.0,
-        (e[3].stamp.0 / 256 % 256) as u8,
-        (e[3].stamp.0 % 256) as u8,
-        e[4].serial.0,
-        (e[4].stamp.0 / 256 % 256) as u8,
-        (e[4].stamp.0 % 256) as u8,
-        e[5].serial.0,
-        (e[5].stamp.0 / 256 % 256) as u8,
-        (e[5].stamp.0 % 256) as u8,
-        e[6].serial.0,
-        (e[6].stamp.0 / 256 % 256) as u8,
-        (e[6].stamp.0 % 256) as u8,
-        e[7].serial.0,
-        (e[7].stamp.0 / 256 % 256) as u8,
-        (e[7].stamp.0 % 256) as u8,
-    ]
-}
-
-// Fills a buffer of 32.
-fn copy(buffer: &mut [u8], bytes: [u8; 32])
-    requires { ⌜ length (now buffer) ≡ 32 ⌝ }
-    ensures { λ _. ⌜ now (buffer .exit) ≡ bytes ⌝ }
-{
-    let mut i = 0;
-    while i < Frame::LENGTH {
-        buffer[i] = bytes[i];
-        i += 1;
     }
 }

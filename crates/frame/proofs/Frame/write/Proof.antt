@@ -3,7 +3,7 @@ use native.Mathlib.Omega.{arith}
 use lib.ListN.{length-map}
 use mathlib.Core.Path.{sym}
 use Rattle.frame.specs.Layout.{Fits}
-use Rattle.frame.proofs.Laws.{write-short, write-refused, write-accepted}
+use Rattle.frame.proofs.Laws.{copied, write-short, write-refused, write-accepted}
 use Rattle.frame.proofs.Theorems.{reads-back}
 use Rattle.frame.proofs.Values.{stamps-fit}
 use Rattle.frame.proofs.Frame.write.Statement.{statement}
@@ -19,15 +19,17 @@ returns-2 c =
 
 returns-3 : tie.Need-returns-3
 returns-3 c =
-    let self = c .before .before .before .before .before .before .before .before .before .args .self in
-    let entries = c .before .before .before .before .before .before .before .before .before .good .0 .1 .1 .1 .1 .1 .1 .1 .1 .0 in
-    let fits : Fits self =
-    record { stamp = search needs; word = search needs; count = simp length-map at (entries .1 .0 .1); stamps = stamps-fit (self .entries) (entries .0) (entries .1 .1) } in
-    let w =
-    write-accepted (c .before .before .before .before .before .before .before .before .before .args .buffer .now) _ _ _ _ (omega arith) (c .before .before .before .before .before .before .refusal .ensures) (c .before .before .before .before .before .if2 .left)
-    (c .before .before .before .before .bytes-of .ensures)
-    (c .before .before .copy .ensures) in
+    let self = c .before .before .before .before .before .before .before .before .before .before .args .self in
+    let entries = c .before .before .before .before .before .before .before .before .before .before .good .0 .1 .1 .1 .1 .1 .1 .1 .1 .0 in
+    let fits : Fits self = record {
+      stamp = search needs;
+      word = search needs;
+      count = simp length-map at (entries .1 .0 .1);
+      stamps = stamps-fit (self .entries) (entries .0) (entries .1 .1);
+    } in
+    let exit = copied (c .before .before .before .before .before .bytes-of .result) (c .before .before .before .before .before .before .before .before .before .before .args .buffer .now) _ (rw (c .before .before .before .before .before .bytes-of .ensures)) (omega arith) (c .before .before .copy .ensures .1) in
+    let w = write-accepted (c .before .before .before .before .before .before .before .before .before .before .args .buffer .now) _ _ _ _ (omega arith) (c .before .before .before .before .before .before .before .refusal .ensures) (c .before .before .before .before .before .before .if2 .left) (c .before .before .before .before .before .bytes-of .ensures) exit in
     (w .0, (w .1, λ z. rw (w .1) (reads-back _ _ fits (sym (w .0)))))
 
 pub write-spec : {M : Type 1} → statement M
-write-spec = tie.close (tie.spec returns (λ c κs. search needs) returns-2 (λ c κs. search needs) (λ c κs. search needs) (λ c. search needs) returns-3)
+write-spec = tie.close (tie.spec returns (λ c κs. search needs) returns-2 (λ c κs. search needs) (λ c. search needs) (λ c κs. search needs) (λ c. search needs) returns-3)

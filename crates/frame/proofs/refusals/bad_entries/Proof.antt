@@ -6,8 +6,8 @@ use Rattle.frame.specs.Lanes.{anyBelow}
 use Rattle.frame.specs.Layout.{entryOf}
 use Rattle.frame.specs.Refusals.{badEntry, badEntries}
 use Rattle.frame.proofs.Laws.{any-more}
-use Rattle.frame.proofs.bad_entries.Statement.{statement}
-use Rattle.frame.proofs.bad_entries.Tie as tie
+use Rattle.frame.proofs.refusals.bad_entries.Statement.{statement}
+use Rattle.frame.proofs.refusals.bad_entries.Tie as tie
 
 abbrev Inv-loop : tie.InvT-loop
 Inv-loop f bad₀ lane₀ bad lane = (lane ≤ 8) × (bad ≡ anyBelow (λ (i : ℕ). badEntry (entryOf f i)) lane)

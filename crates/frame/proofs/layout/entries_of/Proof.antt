@@ -1,6 +1,6 @@
 use borrow.Author.Needs.{needs}
-use Rattle.frame.proofs.entries_of.Statement.{statement}
-use Rattle.frame.proofs.entries_of.Tie as tie
+use Rattle.frame.proofs.layout.entries_of.Statement.{statement}
+use Rattle.frame.proofs.layout.entries_of.Tie as tie
 
 returns : tie.Need-returns
 returns c = cc

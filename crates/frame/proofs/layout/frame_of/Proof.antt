@@ -1,7 +1,7 @@
 use Rattle.frame.specs.Layout.{frameOf}
 use borrow.Author.Needs.{needs}
-use Rattle.frame.proofs.frame_of.Statement.{statement}
-use Rattle.frame.proofs.frame_of.Tie as tie
+use Rattle.frame.proofs.layout.frame_of.Statement.{statement}
+use Rattle.frame.proofs.layout.frame_of.Tie as tie
 
 returns : tie.Need-returns
 unfolding frameOf

@@ -1,6 +1,6 @@
 use borrow.Author.Needs.{needs}
-use Rattle.frame.proofs.entry_at.Statement.{statement}
-use Rattle.frame.proofs.entry_at.Tie as tie
+use Rattle.frame.proofs.layout.entry_at.Statement.{statement}
+use Rattle.frame.proofs.layout.entry_at.Tie as tie
 
 returns : tie.Need-returns
 returns c = cc

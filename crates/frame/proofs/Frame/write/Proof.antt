@@ -1,7 +1,7 @@
 use borrow.Author.Needs.{needs}
 use native.Mathlib.Omega.{arith}
 use lib.ListN.{length-map}
-use mathlib.Core.Path.{sym}
+use mathlib.Core.Path.{_≡_, sym}
 use Rattle.frame.specs.Layout.{Fits}
 use Rattle.frame.proofs.Laws.{copied, write-short, write-refused, write-accepted}
 use Rattle.frame.proofs.Theorems.{reads-back}
@@ -14,21 +14,27 @@ returns c = let w = write-short (c .before .before .args .buffer .now) _ (λ e. 
 
 returns-2 : tie.Need-returns-2
 returns-2 c =
-    let w = write-refused (c .before .before .before .before .args .buffer .now) _ _ (omega arith) (c .before .refusal .ensures) (c .if2 .taken) in
-    (w .0, (w .1, λ z. absurd (c .if2 .taken z)))
+    let bad : c .before .refusal .result ≡ 0 → ⊥ = λ z. omega (arith, c .if2 .taken) in
+    let w = write-refused (c .before .before .before .before .args .buffer .now) _ _ (omega arith) (c .before .refusal .ensures) bad in
+    (w .0, (w .1, λ z. absurd (bad z)))
 
 returns-3 : tie.Need-returns-3
 returns-3 c =
-    let self = c .before .before .before .before .before .before .before .before .before .before .args .self in
-    let entries = c .before .before .before .before .before .before .before .before .before .before .good .0 .1 .1 .1 .1 .1 .1 .1 .1 .0 in
+    let start = c .before .before .before .before .before .before .before .before .before .before in
+    let self = start .args .self in
+    let buffer = start .args .buffer .now in
+    let entries = start .good .0 .1 .1 .1 .1 .1 .1 .1 .1 .0 in
     let fits : Fits self = record {
       stamp = search needs;
       word = search needs;
       count = simp length-map at (entries .1 .0 .1);
       stamps = stamps-fit (self .entries) (entries .0) (entries .1 .1);
     } in
-    let exit = copied (c .before .before .before .before .before .bytes-of .result) (c .before .before .before .before .before .before .before .before .before .before .args .buffer .now) _ (rw (c .before .before .before .before .before .bytes-of .ensures)) (omega arith) (c .before .before .copy .ensures .1) in
-    let w = write-accepted (c .before .before .before .before .before .before .before .before .before .before .args .buffer .now) _ _ _ _ (omega arith) (c .before .before .before .before .before .before .before .refusal .ensures) (c .before .before .before .before .before .before .if2 .left) (c .before .before .before .before .before .bytes-of .ensures) exit in
+    let laid-out = c .before .before .before .before .before .bytes-of in
+    let judged = c .before .before .before .before .before .before .before .refusal in
+    let good : judged .result ≡ 0 = omega arith in
+    let exit = copied (laid-out .result) buffer _ (rw (laid-out .ensures)) (omega arith) (c .before .before .copy .ensures .1) in
+    let w = write-accepted buffer _ _ _ _ (omega arith) (judged .ensures) good (laid-out .ensures) exit in
     (w .0, (w .1, λ z. rw (w .1) (reads-back _ _ fits (sym (w .0)))))
 
 pub write-spec : {M : Type 1} → statement M

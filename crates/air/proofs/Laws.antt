@@ -1,6 +1,6 @@
 -- Laws that the proofs of functions cite. Assumes nothing.
-use mathlib.Core.Path.{_≡_, refl, sym, ap, _∙_}
-use mathlib.Core.Bool.{Bool, true, false, cond, not, _&&_}
+use mathlib.Core.Path.{_≡_, refl, sym, _∙_}
+use mathlib.Core.Bool.{Bool, true, false, cond, _&&_}
 use mathlib.Core.List.{List, [], _++_}
 use Prim.Native.Nat.{ℕ, _+_, _*_, _≤_, _<_}
 use native.Mathlib.Omega.{arith}
@@ -53,27 +53,38 @@ pub stretch-empty : (air : List ℕ) (frames k n : ℕ) → n ≡ stretchRefusal
 unfolding stretchOf
 stretch-empty air frames k n e z = rw (← e, ne-eqb n 0 z)
 
+-- a refusal keeps the air
+pub kept-air : (air : List ℕ) (k : ℕ) (f : Frame) → (placeRefusal air k f ≡ 0 → ⊥) → airWith air k f ≡ air
+unfolding airWith
+kept-air air k f h = rw (ne-eqb (placeRefusal air k f) 0 h)
+
+refused-keeps : (air : List ℕ) (k n : ℕ) (f : Frame) → n ≡ placeRefusal air k f → (n ≡ 0 → ⊥)
+    → (n ≡ placeRefusal air k f) × (air ≡ airWith air k f)
+refused-keeps air k n f e h = (e, sym (kept-air air k f (λ z. h (e ∙ z))))
+
 -- the ways through `write`
 pub write-no-place : (air : List ℕ) (k : ℕ) (f : Frame) → 2048 ≤ k → (6 ≡ placeRefusal air k f) × (air ≡ airWith air k f)
-unfolding airWith placeRefusal
-write-no-place air k f h = (simp (le-ltb k 2048 h), simp (le-ltb k 2048 h))
+unfolding placeRefusal
+write-no-place air k f h = refused-keeps air k 6 f (simp (le-ltb k 2048 h)) (λ z. omega arith)
 
 pub write-bad : (air : List ℕ) (k n : ℕ) (f : Frame) → k < 2048 → n ≡ frameRefusal f → (n ≡ 0 → ⊥)
     → (n ≡ placeRefusal air k f) × (air ≡ airWith air k f)
-unfolding airWith placeRefusal
-write-bad air k n f h e z = (simp (lt-ltb k 2048 h, ← e, ne-eqb n 0 z), simp (lt-ltb k 2048 h, ← e, ne-eqb n 0 z))
+unfolding placeRefusal
+write-bad air k n f h e z = refused-keeps air k n f (simp (lt-ltb k 2048 h, ← e, ne-eqb n 0 z)) z
 
 pub write-short-air : (air : List ℕ) (k n : ℕ) (f : Frame) → k < 2048 → n ≡ frameRefusal f → n ≡ 0 → (length air ≡ 65536 → ⊥)
     → (13 ≡ placeRefusal air k f) × (air ≡ airWith air k f)
-unfolding airWith placeRefusal
+unfolding placeRefusal
 write-short-air air k n f h e z l =
-    (simp (lt-ltb k 2048 h, ← e, z, ne-eqb (length air) 65536 l), simp (lt-ltb k 2048 h, ← e, z, ne-eqb (length air) 65536 l))
+    refused-keeps air k 13 f (simp (lt-ltb k 2048 h, ← e, z, ne-eqb (length air) 65536 l)) (λ q. omega arith)
 
 pub write-good : (air : List ℕ) (k : ℕ) (f : Frame) → length air ≡ 65536 → k < 2048 → frameRefusal f ≡ 0
     → (placeRefusal air k f ≡ 0) × (airWith air k f ≡ placed air k (bytesOf f))
 unfolding airWith placeRefusal
-write-good air k f l h z =
-    (simp (lt-ltb k 2048 h, z, eq-eqb (length air) 65536 l), simp (lt-ltb k 2048 h, z, eq-eqb (length air) 65536 l))
+write-good air k f l h z = go (simp (lt-ltb k 2048 h, z, eq-eqb (length air) 65536 l))
+  where
+    go : placeRefusal air k f ≡ 0 → (placeRefusal air k f ≡ 0) × (airWith air k f ≡ placed air k (bytesOf f))
+    go e = (e, rw e)
 
 pub stretch-length : (air : List ℕ) (k : ℕ) → length air ≡ 65536 → k < 2048 → length (stretchAt air k) ≡ 32
 stretch-length air k l h = simp (length-take, length-drop) (omega arith)
@@ -99,7 +110,7 @@ write-part air part exit k n f l h p e w = go (eqb (frameRefusal f) 0) refl
         let b = write-bad air k n f h (e ∙ judged) ne in
         (b .0, rw (w, written-bad part f (λ z. ne (e ∙ z)), p, take-append-drop 32 (drop (32 * k) air), take-append-drop (32 * k) air) (b .1))
 
--- what a place that is not refused has, and that a refusal keeps the air
+-- what a place that is not refused has
 pub has-place : (air : List ℕ) (k : ℕ) (f : Frame) → placeRefusal air k f ≡ 0 → (k < 2048) × (frameRefusal f ≡ 0) × (length air ≡ 65536)
 unfolding placeRefusal
 has-place air k f h = go (ltb k 2048) refl (eqb (frameRefusal f) 0) refl
@@ -110,7 +121,3 @@ has-place air k f h = go (ltb k 2048) refl (eqb (frameRefusal f) 0) refl
     go true p true q =
         let r : _≡_ {A = ℕ} (cond (badAir air) 13 0) 0 = rw (p, q) at h in
         (ltb-true k 2048 p, eqb-true (frameRefusal f) 0 q, eqb-true (length air) 65536 (not-false _ (passed (badAir air) 13 0 (omega arith) r .0)))
-
-pub kept-air : (air : List ℕ) (k : ℕ) (f : Frame) → (placeRefusal air k f ≡ 0 → ⊥) → airWith air k f ≡ air
-unfolding airWith
-kept-air air k f h = rw (ne-eqb (placeRefusal air k f) 0 h)

@@ -5,10 +5,10 @@ use mathlib.Core.Bool.{Bool, true, false}
 use lib.Dec.{ltb, eqb}
 use borrow.Author.Tests.{ltb-true, ltb-false, eqb-true, eqb-false}
 use mathlib.Core.List.{List, _++_}
-use Prim.Native.Nat.{ℕ, _+_, _*_, _-_, _≤_, _<_}
+use Prim.Native.Nat.{ℕ, _+_, _*_, _-_, _<_}
 use native.Mathlib.Omega.{arith}
 use lib.ListN.{length, getD, take, drop, length-append, length-take, length-drop, List·getD-append}
-use lib.Seq.{getD-append-add, getD-take, getD-drop, take-at, drop-at, drop-drop, ext-getD}
+use lib.Seq.{getD-append-add, getD-take, getD-drop, take-at, drop-at, ext-getD}
 use Rattle.frame.specs.Layout.{Fits, bytesOf}
 use Rattle.frame.specs.ReadWrite.{readOf}
 use Rattle.frame.specs.declared.Frame.{Frame}

@@ -43,9 +43,11 @@ fn entries_judged() {
     );
 }
 
+// "31 and 33 bytes: 6", of bytes of which any 32 are a good frame.
 fn lengths_judged() {
     let bytes = [1u8; 33];
-    print_numbers(b"31 bytes", 6, frame::drift_frame_check(&FRAME_4[..31]));
+    print_numbers(b"31 bytes", 6, frame::drift_frame_check(&bytes[..31]));
+    print_numbers(b"32 bytes", 0, frame::drift_frame_check(&bytes[..32]));
     print_numbers(b"33 bytes", 6, frame::drift_frame_check(&bytes));
 }
 

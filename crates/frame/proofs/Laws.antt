@@ -1,5 +1,5 @@
 -- Laws that the proofs of functions cite. Assumes nothing.
-use mathlib.Core.Path.{_≡_, refl, _∙_, ap₂}
+use mathlib.Core.Path.{_≡_, refl, sym, _∙_, ap₂}
 use mathlib.Core.Bool.{Bool, true, false, cond, _||_}
 use mathlib.Core.List.{List, _++_, append-nil}
 use Prim.Native.Nat.{ℕ, _+_, _<_}
@@ -27,11 +27,11 @@ pub copied : (bytes buffer exit : List ℕ) → length bytes ≡ 32 → length b
 copied bytes buffer exit p q e = e ∙ rw (take-length, drop-of-length-le buffer {i = length bytes} (omega arith)) (append-nil bytes)
 
 -- a chain of refusals ends at a test b that holds, and goes on past one that does not
-pub stops : (t b : Bool) (n r : ℕ) → b ≡ t → b ≡ true → n ≡ cond t n r
-stops t b n r e h = cc
+pub stops : {t b : Bool} {n : ℕ} (r : ℕ) → b ≡ t → b ≡ true → n ≡ cond t n r
+stops r e h = cc
 
-pub passes : (t b : Bool) (n r x : ℕ) → b ≡ t → b ≡ false → x ≡ r → x ≡ cond t n r
-passes t b n r x e h q = cc
+pub passes : {t b : Bool} {r x : ℕ} (n : ℕ) → b ≡ t → b ≡ false → x ≡ r → x ≡ cond t n r
+passes n e h q = cc
 
 -- refusal 6, for bytes to read and for a buffer
 pub not-32 : (l : List ℕ) (r : ℕ) → (length l ≡ 32 → ⊥) → cond (badLength l) 6 r ≡ 6
@@ -89,19 +89,22 @@ unfolding written
 written-bad buffer f h = rw (ne-eqb (writeRefusal buffer f) 0 h)
 
 -- the ways through `write`
+refused-keeps : (buffer : List ℕ) (f : Frame) (n : ℕ) → n ≡ writeRefusal buffer f → (n ≡ 0 → ⊥)
+    → (n ≡ writeRefusal buffer f) × (buffer ≡ written buffer f)
+refused-keeps buffer f n e h = (e, sym (written-bad buffer f (λ z. h (e ∙ z))))
+
 pub write-short : (buffer : List ℕ) (f : Frame) → (length buffer ≡ 32 → ⊥) → (6 ≡ writeRefusal buffer f) × (buffer ≡ written buffer f)
-unfolding written writeRefusal
-write-short buffer f h = (rw (not-32 buffer (frameRefusal f) h), rw (not-32 buffer (frameRefusal f) h))
+unfolding writeRefusal
+write-short buffer f h = refused-keeps buffer f 6 (sym (not-32 buffer (frameRefusal f) h)) (λ z. omega arith)
 
 pub write-refused : (buffer : List ℕ) (f : Frame) (n : ℕ) → length buffer ≡ 32 → n ≡ frameRefusal f → (n ≡ 0 → ⊥)
     → (n ≡ writeRefusal buffer f) × (buffer ≡ written buffer f)
-unfolding written writeRefusal
-write-refused buffer f n l q h =
-    (rw (is-32 buffer (frameRefusal f) l) q, rw (is-32 buffer (frameRefusal f) l, ← q, ne-eqb n 0 h))
+write-refused buffer f n l e h = refused-keeps buffer f n (e ∙ sym (write-judges buffer f l)) h
 
 pub write-accepted : (buffer bytes exit : List ℕ) (f : Frame) (n : ℕ) → length buffer ≡ 32 → n ≡ frameRefusal f → n ≡ 0
     → bytes ≡ joined (fieldBytes f) → exit ≡ bytes
     → (0 ≡ writeRefusal buffer f) × (exit ≡ written buffer f)
-unfolding written writeRefusal bytesOf
+unfolding bytesOf
 write-accepted buffer bytes exit f n l q z p e =
-    (rw (is-32 buffer (frameRefusal f) l, ← q, z), rw (is-32 buffer (frameRefusal f) l, ← q, z, e, p))
+    let none : writeRefusal buffer f ≡ 0 = write-judges buffer f l ∙ sym q ∙ z in
+    (sym none, e ∙ p ∙ sym (written-good buffer f none))

@@ -7,8 +7,6 @@ use lib.ListN.{length, getD}
 use Rattle.frame.specs.Lanes.{lanes}
 use Rattle.frame.specs.declared.Entry.{Entry}
 use Rattle.frame.specs.declared.Frame.{Frame}
-use Rattle.frame.specs.declared.Serial.{Serial}
-use Rattle.frame.specs.declared.Stamp.{Stamp}
 
 -- byte i
 abbrev pub byteAt : List ℕ → ℕ → ℕ

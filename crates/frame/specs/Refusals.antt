@@ -34,6 +34,7 @@ badSender f = ltb 7 (f .sender)
 abbrev pub badEntry : Entry → Bool
 badEntry e = ltb 16 (e .serial .0) || (eqb (e .stamp .0) 0 && not (eqb (e .serial .0) 0))
 
+-- of some lane, 0 to 7
 unfoldable pub badEntries : Frame → Bool
 badEntries f = anyBelow (λ (lane : ℕ). badEntry (entryOf f lane)) 8
 

@@ -1,7 +1,8 @@
 //! Second implementation of "DRIFT in an eight-lane yard" (document 01).
 //!
-//! It is written from document 01 and its readings alone, not from the proved
-//! crates, so that comparing the two can find a misreading in either.
+//! It is written from document 01 and the way it is read (docs/DECISIONS.md),
+//! not from the proved crates, so that comparing the two can find a misreading
+//! in either.
 
 #![forbid(unsafe_code)]
 

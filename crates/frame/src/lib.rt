@@ -6,7 +6,7 @@ mod refusals;
 ghost use mathlib.Core.Path.{_≡_};
 ghost use Rattle.frame.specs.Layout.{bytesOf};
 ghost use Rattle.frame.specs.Refusals.{frameRefusal, readRefusal, writeRefusal};
-ghost use Rattle.frame.specs.ReadWrite.{refusedRead, readOf, written};
+ghost use Rattle.frame.specs.ReadWrite.{noFrame, refusedRead, readOf, written};
 
 // A count of one lane's own orders (a per-source sequence number), 1 to 16; entries also have 0.
 pub struct Serial(pub u8);
@@ -51,6 +51,25 @@ impl Frame {
     pub const ORDER: u8 = 1;
 
     pub const BEACON: u8 = 2;
+
+    // No frame: 0 in every field.
+    pub fn none() -> Self
+        ensures { λ r. ⌜ r ≡ noFrame ⌝ }
+    {
+        let none = Entry {
+            serial: Serial(0),
+            stamp: Stamp(0),
+        };
+        Frame {
+            kind: 0,
+            sender: 0,
+            lane: 0,
+            serial: Serial(0),
+            stamp: Stamp(0),
+            word: 0,
+            entries: [none; 8],
+        }
+    }
 
     // The frame that these bytes lay out, or the refusal 6 to 11.
     pub fn read(bytes: &[u8]) -> FrameRead
@@ -124,19 +143,7 @@ pub extern "C" fn drift_frame_check(bytes: &[u8]) -> u8
 fn refused(number: u8) -> FrameRead
     ensures { λ r. ⌜ r ≡ refusedRead number ⌝ }
 {
-    let none = Entry {
-        serial: Serial(0),
-        stamp: Stamp(0),
-    };
-    let frame = Frame {
-        kind: 0,
-        sender: 0,
-        lane: 0,
-        serial: Serial(0),
-        stamp: Stamp(0),
-        word: 0,
-        entries: [none; 8],
-    };
+    let frame = Frame::none();
     FrameRead {
         refusal: number,
         frame: frame,

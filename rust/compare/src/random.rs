@@ -39,6 +39,16 @@ impl Random {
         self.between(low.into(), high.into()) as u8
     }
 
+    /// True in one of `chances` cases.
+    pub fn one_in(&mut self, chances: u16) -> bool {
+        self.between(1, chances) == 1
+    }
+
+    /// One of the items.
+    pub fn pick<T: Copy>(&mut self, items: &[T]) -> T {
+        items[usize::from(self.between(0, items.len() as u16 - 1))]
+    }
+
     /// Any byte.
     pub fn byte(&mut self) -> u8 {
         self.byte_between(0, 255)

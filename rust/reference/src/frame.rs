@@ -52,6 +52,11 @@ impl Entry {
         stamp: Stamp(0),
     };
 
+    /// Whether the entry says anything; serial 0 with a stamp does.
+    pub(crate) fn is_some(self) -> bool {
+        self.stamp != Stamp(0)
+    }
+
     /// Serial 0 is a real serial, so it passes with any stamp.
     fn is_good(self) -> bool {
         self.serial <= LAST_SERIAL && (self.stamp != Stamp(0) || self.serial == Serial(0))
@@ -140,7 +145,7 @@ impl Frame {
     }
 
     /// Puts the fields into their places, whatever their values.
-    fn encode(&self, buffer: &mut [u8; FRAME_LENGTH]) {
+    pub(crate) fn encode(&self, buffer: &mut [u8; FRAME_LENGTH]) {
         buffer[0] = self.kind;
         buffer[1] = self.sender;
         buffer[2] = self.lane;

@@ -1,0 +1,205 @@
+//! The steps once more, plainly, with a place for one fault.
+
+use super::delivery::deliver;
+use super::faults::Wrong;
+use super::refusals::{has, refusal};
+use crate::layout::Bytes;
+use crate::request::{Answer, Outcome, Request, Step};
+use drift_reference::frame::{Entry, Frame, Serial, Stamp, BEACON, LANES, ORDER};
+use drift_reference::post::Post;
+
+/// The response of a program with this fault.
+pub fn answer(wrong: Wrong, request: &Bytes) -> Bytes {
+    let mut request = Request::read(request);
+    let outcome = match refusal(wrong, &request) {
+        Some(number) => Outcome::refused(number),
+        // What a step does where it should be refused does not matter.
+        None if refusal(Wrong::Nothing, &request).is_some() => Outcome::of(Answer::Again, 255),
+        None => run(wrong, &mut request),
+    };
+    request.response(outcome)
+}
+
+fn run(wrong: Wrong, request: &mut Request) -> Outcome {
+    match request.step {
+        Step::Fresh => request.run(),
+        Step::Order => order(wrong, request),
+        Step::Hear => hear(wrong, request),
+        Step::Beacon => {
+            let frame = Frame {
+                kind: BEACON,
+                sender: request.post.lane,
+                lane: 0,
+                serial: Serial(0),
+                stamp: Stamp(0),
+                word: 0,
+                entries: newest(wrong, &request.post),
+            };
+            broadcast(&frame, request);
+            Outcome::of(Answer::BeaconSent, 0)
+        }
+    }
+}
+
+fn order(wrong: Wrong, request: &mut Request) -> Outcome {
+    let post = &mut request.post;
+    post.clock.0 += 1;
+    post.serial.0 += 1;
+    let (lane, serial, stamp) = (post.lane, post.serial, post.clock);
+    let known = &mut post.table[17 * usize::from(lane) + usize::from(serial.0)];
+    *known = match wrong {
+        Wrong::OwnOrderOnlyRaises => stamp.0.max(*known),
+        Wrong::OwnOrderWithoutEntry => *known,
+        _ => stamp.0,
+    };
+    let mut frame = Frame {
+        kind: ORDER,
+        sender: lane,
+        lane,
+        serial,
+        stamp,
+        word: request.word,
+        entries: [Entry::NONE; LANES],
+    };
+    keep(wrong, post, &frame);
+    frame.entries = newest(wrong, post);
+    broadcast(&frame, request);
+    let count = match wrong {
+        Wrong::OrderDoesNotDeliver => 0,
+        _ => deliver(wrong, &mut request.post),
+    };
+    Outcome {
+        serial: serial.0,
+        stamp: stamp.0,
+        ..Outcome::of(Answer::OrderSent, count)
+    }
+}
+
+fn hear(wrong: Wrong, request: &mut Request) -> Outcome {
+    let frame = Frame::read(request.frame.bytes()).expect("it is not refused");
+    let post = &mut request.post;
+    let old = newest(wrong, post);
+    let last = post.last[usize::from(frame.lane)];
+    let answer = match frame.serial.0 {
+        _ if frame.kind == BEACON => Answer::BeaconHeard,
+        serial if serial <= last => Answer::Again,
+        serial if serial == last + 1 || wrong == Wrong::EarlyIsTaken => Answer::Taken,
+        _ => Answer::Early,
+    };
+    raise_entries(wrong, post, &frame, answer);
+    let kept_last = post.last;
+    if answer == Answer::Taken || answer == Answer::Early && wrong == Wrong::EarlyIsKept {
+        keep(wrong, post, &frame);
+    }
+    if answer == Answer::Early {
+        post.last = kept_last;
+    }
+    move_clock(wrong, post, &frame, answer);
+    if answer == Answer::Taken || answer == Answer::Again && wrong == Wrong::BroadcastOnAgain {
+        let mut passed_on = frame;
+        if wrong != Wrong::SenderStays {
+            passed_on.sender = post.lane;
+        }
+        match wrong {
+            Wrong::BroadcastOfOldTable => passed_on.entries = old,
+            Wrong::FramePassedOn => {}
+            _ => passed_on.entries = newest(wrong, post),
+        }
+        broadcast(&passed_on, request);
+    }
+    let post = &mut request.post;
+    let mut count = match wrong {
+        Wrong::DeliversOnlyWhenTaken if answer != Answer::Taken => 0,
+        _ => deliver(wrong, post),
+    };
+    if wrong == Wrong::DeliversEarly && answer == Answer::Early && has(post.dests, post.lane) {
+        post.log[usize::from(post.logged)] = 16 * frame.lane + frame.serial.0 - 1;
+        post.logged += 1;
+        count += 1;
+    }
+    Outcome::of(answer, count)
+}
+
+fn raise_entries(wrong: Wrong, post: &mut Post, frame: &Frame, answer: Answer) {
+    match wrong {
+        Wrong::EntryForgottenOnAgain if answer == Answer::Again => return,
+        Wrong::EntryForgottenOnEarly if answer == Answer::Early => return,
+        _ => {}
+    }
+    for (lane, entry) in frame.entries.iter().enumerate() {
+        let serial = usize::from(entry.serial.0);
+        let is_older = serial < usize::from(post.last[lane]);
+        let known = &mut post.table[17 * lane + serial];
+        match wrong {
+            Wrong::EntryLowers if entry.stamp.0 > 0 => *known = entry.stamp.0,
+            Wrong::EntryOfNewerSerialOnly if is_older => {}
+            _ => *known = entry.stamp.0.max(*known),
+        }
+    }
+    if wrong == Wrong::OrderRaisesTable && answer == Answer::Taken {
+        let place = 17 * usize::from(frame.lane) + usize::from(frame.serial.0);
+        post.table[place] = post.table[place].max(frame.stamp.0);
+    }
+}
+
+fn keep(wrong: Wrong, post: &mut Post, frame: &Frame) {
+    let place = 16 * usize::from(frame.lane) + usize::from(frame.serial.0) - 1;
+    post.stamps[place] = frame.stamp.0;
+    if wrong != Wrong::WordForgotten {
+        post.words[place] = frame.word;
+    }
+    post.last[usize::from(frame.lane)] = frame.serial.0;
+}
+
+fn move_clock(wrong: Wrong, post: &mut Post, frame: &Frame, answer: Answer) {
+    let is_moved = match wrong {
+        Wrong::ClockOnAgain => matches!(answer, Answer::Taken | Answer::Again),
+        Wrong::ClockOnEarly => matches!(answer, Answer::Taken | Answer::Early),
+        _ => answer == Answer::Taken,
+    };
+    if !is_moved || !has(post.sources, post.lane) && wrong != Wrong::ClockOfAnyPost {
+        return;
+    }
+    let reached = match wrong {
+        Wrong::ClockWithoutStamp => post.clock.0,
+        Wrong::ClockWithoutMax => frame.stamp.0,
+        _ => post.clock.0.max(frame.stamp.0),
+    };
+    post.clock.0 = reached.wrapping_add(1);
+    let serial = match wrong {
+        Wrong::OwnEntryAtZero => 0,
+        _ => usize::from(post.serial.0),
+    };
+    let known = &mut post.table[17 * usize::from(post.lane) + serial];
+    *known = match wrong {
+        Wrong::OwnEntryForgotten => *known,
+        Wrong::OwnEntryOnlyRaised => post.clock.0.max(*known),
+        _ => post.clock.0,
+    };
+}
+
+fn broadcast(frame: &Frame, request: &mut Request) {
+    frame
+        .write(request.buffer.bytes_mut())
+        .expect("a good frame");
+}
+
+fn newest(wrong: Wrong, post: &Post) -> [Entry; LANES] {
+    std::array::from_fn(|lane| {
+        let row = &post.table[17 * lane..17 * lane + 17];
+        let known = (0..17).filter(|&serial| row[serial] > 0);
+        let picked = match wrong {
+            Wrong::NewestLowerSerial => known.rev().max_by_key(|&serial| row[serial]),
+            Wrong::NewestHighestSerial => known.max(),
+            Wrong::NewestOfSourcesOnly if !has(post.sources, lane as u8) => None,
+            Wrong::NewestSerialZeroIsNone => known
+                .filter(|&serial| serial > 0)
+                .max_by_key(|&serial| row[serial]),
+            _ => known.max_by_key(|&serial| row[serial]),
+        };
+        picked.map_or(Entry::NONE, |serial| Entry {
+            serial: Serial(serial as u8),
+            stamp: Stamp(row[serial]),
+        })
+    })
+}

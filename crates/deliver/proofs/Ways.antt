@@ -7,10 +7,11 @@ use native.Mathlib.Omega.{arith}
 use lib.ListN.{length, take, replicate, length-take, length-map}
 use lib.Seq.{sets}
 use Rattle.post.specs.declared.Post.{Post}
-use Rattle.post.specs.Record.{isDest}
-use Rattle.deliver.specs.declared.Delivery.{Delivery}
+use Rattle.post.specs.Record.{isDest, withLog}
+use Rattle.deliver.specs.declared.Delivered.{Delivered}
+use Rattle.deliver.specs.declared.NewLog.{NewLog}
 use Rattle.deliver.specs.declared.Least.{Least}
-use Rattle.deliver.specs.Delivery.{sort, dueBelow, duePlaces, dueJoin, delivery}
+use Rattle.deliver.specs.Delivery.{sort, dueBelow, duePlaces, dueLog, delivered}
 use Rattle.deliver.specs.Loops.{leastBelow, marksBelow, Gathered, gathered, appendedBelow}
 use Rattle.deliver.proofs.Gathering.{Sorts, gatheredOf, sorts, appended-is}
 
@@ -18,8 +19,8 @@ pub join-is : (p : Post) (old : ℕ) (marks : List ℕ) (least : Least) (keys lo
     → marks ≡ marksBelow (p .log) old → least ≡ leastBelow (p .sources) (p .last) (p .table) 8
     → _≡_ {A = Gathered} (record { keys = keys; count = n }) (gathered (p .last) (p .stamps) marks least (record { keys = replicate 128 0; count = 0 }) 0 128)
     → log ≡ appendedBelow (p .log) (p .logged) keys n → t ≡ min (p .logged + n) 128
-    → _≡_ {A = Delivery} (record { log = log; logged = t; count = n }) (dueJoin p)
-unfolding dueJoin duePlaces
+    → _≡_ {A = NewLog} (record { log = log; logged = t; count = n }) (dueLog p)
+unfolding dueLog duePlaces
 join-is p old marks least keys log n t eo em el eg ea et =
     let s = sorts p 128 (omega arith) in
     let g : _≡_ {A = Gathered} (record { keys = keys; count = n }) (gatheredOf p 128) = rw (em, eo, el) at eg in
@@ -35,11 +36,12 @@ join-is p old marks least keys log n t eo em el eg ea et =
     in
     rw (lg, et, ← ln)
 
-pub deliver-joins : (p : Post) (b : Bool) (r : Delivery) → b ≡ isDest p (p .lane) → b ≡ true → r ≡ dueJoin p → r ≡ delivery p
-unfolding delivery
-deliver-joins p b r e s h = rw (sym e ∙ s) h
+pub deliver-joins : (p : Post) (b : Bool) (new : NewLog) → b ≡ isDest p (p .lane) → b ≡ true → new ≡ dueLog p
+    → _≡_ {A = Delivered} (record { post = withLog p (new .log) (new .logged); count = new .count }) (delivered p)
+unfolding delivered
+deliver-joins p b new e s h = rw (sym e ∙ s, ← h)
 
 pub deliver-passes : (p : Post) (b : Bool) → b ≡ isDest p (p .lane) → b ≡ false
-    → _≡_ {A = Delivery} (record { log = p .log; logged = p .logged; count = 0 }) (delivery p)
-unfolding delivery
+    → _≡_ {A = Delivered} (record { post = p; count = 0 }) (delivered p)
+unfolding delivered
 deliver-passes p b e s = rw (sym e ∙ s)

@@ -6,6 +6,8 @@
 
 mod frames;
 mod layout;
+#[cfg(test)]
+mod layout_tests;
 mod library;
 mod posts;
 mod random;

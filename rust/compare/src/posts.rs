@@ -74,7 +74,7 @@ impl Requests {
         if random.one_in(16) {
             return all_random(random);
         }
-        let mut request = if random.one_in(2) {
+        let mut request = if random.one_in(3) {
             self.history.proposal(random)
         } else {
             let post = made_up::record(random);

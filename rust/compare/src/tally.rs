@@ -95,28 +95,36 @@ impl fmt::Display for Tally {
         }
         writeln!(output, "{:>10}", "all")?;
         for (answer, name) in ANSWERS.iter().enumerate().skip(1) {
-            write_row(output, name, self.answers.map(|counts| counts[answer]))?;
+            let counts = POSSIBLE.map(|(step, _, answers, _)| {
+                let is_possible = answers.iter().any(|&possible| possible as usize == answer);
+                is_possible.then_some(self.answers[step as usize][answer])
+            });
+            write_row(output, name, counts)?;
         }
-        for number in 1..REFUSALS {
-            let counts = self.refusals.map(|counts| counts[number]);
-            if counts.iter().sum::<u64>() > 0 {
-                write_row(output, &format!("refused by {number}"), counts)?;
-            }
+        for number in 1..REFUSALS as u8 {
+            let counts = POSSIBLE.map(|(step, _, _, refusals)| {
+                let is_possible = refusals.contains(&number);
+                is_possible.then_some(self.refusals[step as usize][usize::from(number)])
+            });
+            write_row(output, &format!("refused by {number}"), counts)?;
         }
-        let sums = self.answers.map(|counts| counts.iter().sum());
+        let sums = self.answers.map(|counts| Some(counts.iter().sum()));
         write_row(output, "all", sums)?;
-        write_row(output, "delivering", self.delivering)
+        write_row(output, "delivering", self.delivering.map(Some))
     }
 }
 
-/// A count for each step and their sum; a dot stands for none.
-fn write_row(output: &mut fmt::Formatter, name: &str, counts: [u64; 4]) -> fmt::Result {
+/// A count for each step that can have one, and their sum; no row without any.
+fn write_row(output: &mut fmt::Formatter, name: &str, counts: [Option<u64>; 4]) -> fmt::Result {
+    if counts == [None; 4] {
+        return Ok(());
+    }
     write!(output, "{name:<14}")?;
     for count in counts {
         match count {
-            0 => write!(output, "{:>10}", ".")?,
-            _ => write!(output, "{count:>10}")?,
+            None => write!(output, "{:>10}", ".")?,
+            Some(count) => write!(output, "{count:>10}")?,
         }
     }
-    writeln!(output, "{:>10}", counts.iter().sum::<u64>())
+    writeln!(output, "{:>10}", counts.iter().flatten().sum::<u64>())
 }

@@ -76,9 +76,9 @@ fn entry(random: &mut Random, post: &Post, lane: u8) -> Entry {
             stamp: Stamp(random.between_often_an_end(1, post.clock.0)),
         };
     }
-    let serial = match random.between(0, 5) {
-        0 => random.byte_between(0, 16),
-        1 => last + 1,
+    let serial = match random.between(0, 7) {
+        0..=2 => random.byte_between(0, 16),
+        3 => last + 1,
         _ => last,
     };
     let serial = serial.min(LAST_SERIAL.0);

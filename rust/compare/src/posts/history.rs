@@ -45,12 +45,16 @@ impl History {
             true => Stamp(u16::MAX - random.between(0, 60)),
             false => Stamp(0),
         };
+        // A post alone has nothing to hear but itself; some yards send all orders.
+        let longest = match posts.is_power_of_two() {
+            true => 60,
+            false => random.pick(&[100, 200, 400, 1000]),
+        };
         History {
             unmade: lanes.map(post).collect(),
             posts: Vec::new(),
             air: Vec::new(),
-            // A post alone has nothing to hear but itself.
-            steps_left: random.between(20, if posts.is_power_of_two() { 60 } else { 400 }),
+            steps_left: random.between(20, longest),
             order_one_in: random.between(2, 20),
             beacon_one_in: random.between(4, 20),
             orderly_one_in: random.between(1, 6),

@@ -86,13 +86,13 @@ fn take_orders(random: &mut Random, post: &mut Post, low: u16, high: u16) {
     let full = random.one_in(16);
     for lane in 0..LANES {
         let is_source = post.sources >> lane & 1 == 1;
-        let last = match random.between(0, 7) {
+        let last = match random.between(0, 9) {
             _ if full => 16,
             0 if !is_source => random.byte_between(1, 3),
             _ if !is_source => 0,
             0..=1 => 0,
-            2..=5 => random.byte_between(1, 3),
-            6 => 16,
+            2..=4 => random.byte_between(1, 3),
+            5 => 16,
             _ => random.byte_between(0, 16),
         };
         post.last[lane] = last;

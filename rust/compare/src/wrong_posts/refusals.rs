@@ -3,11 +3,14 @@
 
 use super::faults::Wrong;
 use crate::request::{Request, Step};
-use drift_reference::frame::{Frame, FRAME_LENGTH, ORDER};
+use drift_reference::frame::{Entry, Frame, Serial, Stamp, FRAME_LENGTH, ORDER};
 use drift_reference::post::Post;
 
-/// The clauses of refusal 12: a name, and whether the record breaks it.
-pub const CLAUSES: [(&str, fn(&Post) -> bool); 13] = [
+/// A name, and whether a record breaks the clause.
+type Clause = (&'static str, fn(&Post) -> bool);
+
+/// The clauses of refusal 12.
+pub const CLAUSES: [Clause; 13] = [
     ("lane", |post| post.lane > 7),
     ("own serial or last taken", |post| {
         post.serial.0 > 16 || post.last.iter().any(|&last| last > 16)
@@ -102,8 +105,8 @@ fn judge(wrong: Wrong, number: u8, request: &Request) -> Option<u8> {
         22 => !has(post.sources, post.lane),
         23 => post.serial.0 >= 16,
         24 if !is_hearing => post.clock.0 == 65_535,
-        _ => match Frame::read(request.frame.bytes()) {
-            Ok(frame) => judge_frame(wrong, number, post, &frame),
+        _ => match request.frame.bytes().try_into() {
+            Ok(bytes) => judge_frame(wrong, number, post, &fields(bytes)),
             Err(_) => false,
         },
     };
@@ -123,57 +126,81 @@ fn request_breaks(request: &Request, is_broken: fn(&Post) -> bool) -> bool {
     is_broken(&fresh)
 }
 
+/// The fields of a frame, readable or not.
+fn fields(bytes: &[u8; FRAME_LENGTH]) -> Frame {
+    let wide = |at: usize| Stamp(u16::from_be_bytes([bytes[at], bytes[at + 1]]));
+    Frame {
+        kind: bytes[0],
+        sender: bytes[1],
+        lane: bytes[2],
+        serial: Serial(bytes[3]),
+        stamp: wide(4),
+        word: wide(6).0,
+        entries: std::array::from_fn(|lane| Entry {
+            serial: Serial(bytes[8 + 3 * lane]),
+            stamp: wide(9 + 3 * lane),
+        }),
+    }
+}
+
 /// Conditions of a hearing that need the frame.
 fn judge_frame(wrong: Wrong, number: u8, post: &Post, frame: &Frame) -> bool {
-    let is_order = frame.kind == ORDER;
-    let last = usize::from(post.last[usize::from(frame.lane)]);
-    let next = usize::from(frame.serial.0);
-    let is_to_be_taken = is_order && next == last + 1;
-    let clock = post.clock.0;
     match number {
-        24 => {
-            let is_moved = match wrong {
-                Wrong::ClockSpentByAgain => is_order && next <= last + 1,
-                Wrong::ClockSpentByEarly => is_order && next > last,
-                _ => is_to_be_taken,
-            };
-            let is_full = match wrong {
-                Wrong::ClockSpentByClockOnly => clock == 65_535,
-                Wrong::ClockSpentByStampOnly => frame.stamp.0 == 65_535,
-                Wrong::ClockSpentOneEarly => clock.max(frame.stamp.0) >= 65_534,
-                _ => clock.max(frame.stamp.0) == 65_535,
-            };
-            is_moved
-                && is_full
-                && (wrong == Wrong::ClockSpentAnywhere || has(post.sources, post.lane))
-        }
+        24 => is_clock_spent(wrong, post, frame),
         26 => match wrong {
-            Wrong::OwnOrderIsOwnBroadcast => is_order && frame.lane == post.lane,
-            Wrong::OwnBeaconHeard => is_order && frame.sender == post.lane,
+            Wrong::OwnOrderIsOwnBroadcast => frame.kind == ORDER && frame.lane == post.lane,
+            Wrong::OwnBeaconHeard => frame.kind == ORDER && frame.sender == post.lane,
             _ => frame.sender == post.lane,
         },
         28 => is_strange(wrong, post, frame),
-        29 => {
-            let judged = match wrong {
-                Wrong::StaleAgain => is_order && (next <= last + 1),
-                Wrong::StaleEarly => is_order && next > last,
-                _ => is_to_be_taken,
-            };
-            let place = 16 * usize::from(frame.lane) + last;
-            let is_first = last == 0 && (wrong != Wrong::StaleFirst || place == 0);
-            let stale = |kept: u16| match wrong {
-                Wrong::StaleUnlessBelow => frame.stamp.0 < kept,
-                _ => frame.stamp.0 <= kept,
-            };
-            judged
-                && !is_first
-                && post
-                    .stamps
-                    .get(place.wrapping_sub(1))
-                    .is_some_and(|&kept| stale(kept))
-        }
+        29 => is_stale(wrong, post, frame),
         _ => is_beyond(wrong, post, frame),
     }
+}
+
+/// How far the serial of an order is from the last taken: 1 is to be taken.
+fn distance(post: &Post, frame: &Frame) -> Option<i32> {
+    let last = *post.last.get(usize::from(frame.lane))?;
+    (frame.kind == ORDER).then(|| i32::from(frame.serial.0) - i32::from(last))
+}
+
+fn is_clock_spent(wrong: Wrong, post: &Post, frame: &Frame) -> bool {
+    let is_moved = distance(post, frame).is_some_and(|distance| match wrong {
+        Wrong::ClockSpentByAgain => distance <= 1,
+        Wrong::ClockSpentByEarly => distance >= 1,
+        _ => distance == 1,
+    });
+    let (clock, stamp) = (post.clock.0, frame.stamp.0);
+    let is_full = match wrong {
+        Wrong::ClockSpentByClockOnly => clock == 65_535,
+        Wrong::ClockSpentByStampOnly => stamp == 65_535,
+        Wrong::ClockSpentOneEarly => clock.max(stamp) >= 65_534,
+        _ => clock.max(stamp) == 65_535,
+    };
+    let has_clock = wrong == Wrong::ClockSpentAnywhere || has(post.sources, post.lane);
+    is_moved && is_full && has_clock
+}
+
+fn is_stale(wrong: Wrong, post: &Post, frame: &Frame) -> bool {
+    let is_judged = distance(post, frame).is_some_and(|distance| match wrong {
+        Wrong::StaleAgain => distance <= 1,
+        Wrong::StaleEarly => distance >= 1,
+        _ => distance == 1,
+    });
+    if !is_judged {
+        return false;
+    }
+    let last = usize::from(post.last[usize::from(frame.lane)]);
+    let place = 16 * usize::from(frame.lane) + last;
+    let Some(&kept) = post.stamps.get(place.wrapping_sub(1)) else {
+        return false;
+    };
+    let is_first = last == 0 && wrong != Wrong::StaleFirst;
+    let is_below = match wrong {
+        Wrong::StaleUnlessBelow => frame.stamp.0 < kept,
+        _ => frame.stamp.0 <= kept,
+    };
+    is_below && !is_first
 }
 
 fn is_strange(wrong: Wrong, post: &Post, frame: &Frame) -> bool {

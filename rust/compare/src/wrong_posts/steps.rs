@@ -62,6 +62,7 @@ fn order(wrong: Wrong, request: &mut Request) -> Outcome {
         entries: [Entry::NONE; LANES],
     };
     keep(wrong, post, &frame);
+    post.last[usize::from(lane)] = serial.0;
     frame.entries = newest(wrong, post);
     broadcast(&frame, request);
     let count = match wrong {
@@ -87,25 +88,15 @@ fn hear(wrong: Wrong, request: &mut Request) -> Outcome {
         _ => Answer::Early,
     };
     raise_entries(wrong, post, &frame, answer);
-    let kept_last = post.last;
     if answer == Answer::Taken || answer == Answer::Early && wrong == Wrong::EarlyIsKept {
         keep(wrong, post, &frame);
     }
-    if answer == Answer::Early {
-        post.last = kept_last;
+    if answer == Answer::Taken {
+        post.last[usize::from(frame.lane)] = frame.serial.0;
     }
     move_clock(wrong, post, &frame, answer);
     if answer == Answer::Taken || answer == Answer::Again && wrong == Wrong::BroadcastOnAgain {
-        let mut passed_on = frame;
-        if wrong != Wrong::SenderStays {
-            passed_on.sender = post.lane;
-        }
-        match wrong {
-            Wrong::BroadcastOfOldTable => passed_on.entries = old,
-            Wrong::FramePassedOn => {}
-            _ => passed_on.entries = newest(wrong, post),
-        }
-        broadcast(&passed_on, request);
+        pass_on(wrong, request, frame, old);
     }
     let post = &mut request.post;
     let mut count = match wrong {
@@ -148,7 +139,19 @@ fn keep(wrong: Wrong, post: &mut Post, frame: &Frame) {
     if wrong != Wrong::WordForgotten {
         post.words[place] = frame.word;
     }
-    post.last[usize::from(frame.lane)] = frame.serial.0;
+}
+
+/// Broadcasts the order under the own lane; `old` is what was known before.
+fn pass_on(wrong: Wrong, request: &mut Request, mut frame: Frame, old: [Entry; LANES]) {
+    if wrong != Wrong::SenderStays {
+        frame.sender = request.post.lane;
+    }
+    match wrong {
+        Wrong::BroadcastOfOldTable => frame.entries = old,
+        Wrong::FramePassedOn => {}
+        _ => frame.entries = newest(wrong, &request.post),
+    }
+    broadcast(&frame, request);
 }
 
 fn move_clock(wrong: Wrong, post: &mut Post, frame: &Frame, answer: Answer) {

@@ -123,9 +123,9 @@ impl Post {
     }
 }
 
-/// Whether the lane is in the set; a lane over 7 never is.
+/// Whether the lane, 0 to 7, is in the set.
 pub(super) fn holds(set: u8, lane: u8) -> bool {
-    usize::from(lane) < LANES && set >> lane & 1 == 1
+    set >> lane & 1 == 1
 }
 
 /// Place of a lane and serial, 0 to 16, in the table.

@@ -42,6 +42,22 @@ fn again_and_early_raise_the_table_and_nothing_else() {
 }
 
 #[test]
+fn every_serial_up_to_the_last_taken_is_again() {
+    let mut post = post_of_yard(2);
+    for serial in 1..=16 {
+        let order = (0, serial, serial.into(), 5);
+        assert_eq!(hear(&mut post, &order_frame(0, order, &[])).0, Taken(0));
+        for older in 1..=16 {
+            let expected = if older <= serial { Again(0) } else { Early(0) };
+            if older != serial + 1 {
+                let frame = order_frame(1, (0, older, 1, 5), &[]);
+                assert_eq!(hear(&mut post, &frame).0, expected);
+            }
+        }
+    }
+}
+
+#[test]
 fn the_order_itself_is_no_entry() {
     let mut post = post_of_yard(2);
     assert_eq!(

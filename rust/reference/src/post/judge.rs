@@ -6,6 +6,7 @@ use super::{
     STAMP_NOT_ABOVE, STRANGER,
 };
 use crate::frame::{Frame, Serial, LANES, LAST_SERIAL, ORDER};
+use std::ops::BitOr;
 
 impl Post {
     /// Refusal 12. The later clauses rely on the ranges, so those come first.
@@ -27,7 +28,7 @@ impl Post {
             && self.serial <= LAST_SERIAL
             && self.last.iter().all(|&last| Serial(last) <= LAST_SERIAL)
             && usize::from(self.logged) <= ORDERS
-            && self.log.iter().all(|&place| usize::from(place) < ORDERS)
+            && usize::from(union(&self.log)) < ORDERS
     }
 
     fn roles_have_posts(&self) -> bool {
@@ -39,24 +40,19 @@ impl Post {
         let per_lane = usize::from(LAST_SERIAL.0);
         let stamps = self.stamps.chunks_exact(per_lane);
         let words = self.words.chunks_exact(per_lane);
-        self.last
-            .iter()
-            .zip(stamps.zip(words))
-            .all(|(&last, (stamps, words))| {
-                let (taken, beyond) = stamps.split_at(usize::from(last));
-                !taken.contains(&0)
-                    && beyond.iter().all(|&stamp| stamp == 0)
-                    && words[usize::from(last)..].iter().all(|&word| word == 0)
-            })
+        let mut lanes = self.last.iter().zip(stamps.zip(words));
+        lanes.all(|(&last, (stamps, words))| {
+            let (taken, beyond) = stamps.split_at(usize::from(last));
+            !taken.contains(&0) && union(beyond) == 0 && union(&words[usize::from(last)..]) == 0
+        })
     }
 
     /// No order twice, none that is not taken, and zero in the unused places.
     fn log_is_good(&self) -> bool {
         let delivered = self.delivered();
-        let unused = &self.log[usize::from(self.logged)..];
         delivered.count_ones() == u32::from(self.logged)
             && delivered & !self.taken() == 0
-            && unused.iter().all(|&place| place == 0)
+            && union(&self.log[usize::from(self.logged)..]) == 0
     }
 
     /// Refusal 21.
@@ -132,4 +128,10 @@ impl Post {
         let own_order = frame.kind == ORDER && frame.lane == self.lane;
         entry_beyond || (own_order && frame.serial > self.serial)
     }
+}
+
+/// All bits of all the numbers; looking for a single one is slower.
+fn union<T: Copy + Default + BitOr<Output = T>>(numbers: &[T]) -> T {
+    let none = T::default();
+    numbers.iter().fold(none, |bits, &number| bits | number)
 }

@@ -1,0 +1,143 @@
+// A post run singly: the entries for hosts and firmware. Each judges everything that it is handed, the record too (12),
+// and a refusal leaves post and buffer as they were. The contracts cite specs/Single.antt.
+use frame::Frame;
+use post::Post;
+use steps::BeaconAnswer;
+use steps::HearAnswer;
+use steps::OrderAnswer;
+ghost use mathlib.Core.Path.{_≡_};
+ghost use Rattle.steps.specs.Answers.{orderNumber, hearNumber, beaconNumber};
+ghost use Rattle.single.specs.Single.{freshSingly, orderRefusalSingly, orderSingly, orderBuffer, hearRefusalSingly, hearSingly, hearBuffer, beaconRefusalSingly, beaconSingly, beaconBuffer};
+
+// A fresh post and 0, or the refusal (12, 21) and a record of zeros.
+pub struct Fresh {
+    pub refusal: u8,
+    pub post: Post,
+}
+
+// What an order answers, and the post after it.
+pub struct Ordered {
+    pub answer: OrderAnswer,
+    pub post: Post,
+}
+
+// What a hearing answers, and the post after it.
+pub struct Heard {
+    pub answer: HearAnswer,
+    pub post: Post,
+}
+
+// A fresh post by lane and roles (12, 21).
+pub fn fresh(lane: u8, posts: u8, sources: u8, dests: u8) -> Fresh
+    ensures { λ r. ⌜ r ≡ freshSingly lane posts sources dests ⌝ }
+{
+    let post = Post::new(lane, posts, sources, dests);
+    let number = cells::pick(!cells::has(posts, lane), 21, 0);
+    let number = cells::pick(judge::refusal(post) != 0, 12, number);
+    if number == 0 {
+        Fresh {
+            refusal: 0,
+            post: post,
+        }
+    } else {
+        let none = Post::new(0, 0, 0, 0);
+        Fresh {
+            refusal: number,
+            post: none,
+        }
+    }
+}
+
+// The post sends an order (6, 12, 21 to 24); its broadcast goes into the buffer.
+pub fn order(p: Post, word: u16, buffer: &mut [u8]) -> Ordered
+    ensures { λ r. ⌜ r ≡ orderSingly p word (now (buffer .entry)) ⌝ }
+    ensures buffer { λ _. ⌜ now (buffer .exit) ≡ orderBuffer p word (now (buffer .entry)) ⌝ }
+    ensures number { λ r. ⌜ orderNumber (r .answer) ≡ orderRefusalSingly p (now (buffer .entry)) ⌝ }
+{
+    if buffer.len() != Post::FRAME_LENGTH {
+        return Ordered {
+            answer: OrderAnswer::Refused(6),
+            post: p,
+        };
+    }
+    let number = judge::refusal(p);
+    if number != 0 {
+        return Ordered {
+            answer: OrderAnswer::Refused(number),
+            post: p,
+        };
+    }
+    let done = steps::order(p, word);
+    let answer = done.answer;
+    let post = done.post;
+    let frame = done.frame;
+    if frame.kind != 0 {
+        frame.write(buffer);
+    }
+    Ordered {
+        answer: answer,
+        post: post,
+    }
+}
+
+// The post hears a frame (6 to 12, 21, 24, 26, 28 to 30); its broadcast, if the order is taken, goes into the buffer.
+pub fn hear(p: Post, bytes: &[u8], buffer: &mut [u8]) -> Heard
+    ensures { λ r. ⌜ r ≡ hearSingly p (now (bytes .entry)) (now (buffer .entry)) ⌝ }
+    ensures buffer { λ _. ⌜ now (buffer .exit) ≡ hearBuffer p (now (bytes .entry)) (now (buffer .entry)) ⌝ }
+    ensures number { λ r. ⌜ hearNumber (r .answer) ≡ hearRefusalSingly p (now (bytes .entry)) (now (buffer .entry)) ⌝ }
+{
+    if buffer.len() != Post::FRAME_LENGTH {
+        return Heard {
+            answer: HearAnswer::Refused(6),
+            post: p,
+        };
+    }
+    let got = Frame::read(bytes);
+    if got.refusal != 0 {
+        return Heard {
+            answer: HearAnswer::Refused(got.refusal),
+            post: p,
+        };
+    }
+    let number = judge::refusal(p);
+    if number != 0 {
+        return Heard {
+            answer: HearAnswer::Refused(number),
+            post: p,
+        };
+    }
+    let heard = got.frame;
+    let done = steps::hear(p, heard);
+    let answer = done.answer;
+    let post = done.post;
+    let frame = done.frame;
+    if frame.kind != 0 {
+        frame.write(buffer);
+    }
+    Heard {
+        answer: answer,
+        post: post,
+    }
+}
+
+// The post sends a beacon (6, 12, 21), which goes into the buffer; the post stays as it is.
+pub fn beacon(p: Post, buffer: &mut [u8]) -> BeaconAnswer
+    ensures { λ r. ⌜ r ≡ beaconSingly p (now (buffer .entry)) ⌝ }
+    ensures buffer { λ _. ⌜ now (buffer .exit) ≡ beaconBuffer p (now (buffer .entry)) ⌝ }
+    ensures number { λ r. ⌜ beaconNumber r ≡ beaconRefusalSingly p (now (buffer .entry)) ⌝ }
+{
+    if buffer.len() != Post::FRAME_LENGTH {
+        return BeaconAnswer::Refused(6);
+    }
+    let number = judge::refusal(p);
+    if number != 0 {
+        return BeaconAnswer::Refused(number);
+    }
+    let done = steps::beacon(p);
+    let answer = done.answer;
+    let frame = done.frame;
+    if frame.kind != 0 {
+        frame.write(buffer);
+    }
+    answer
+}

@@ -14,7 +14,7 @@ use Rattle.steps.specs.Steps.{orderSent, hearTaken, hearStep}
 use Rattle.steps.specs.declared.OrderAnswer as orders
 use Rattle.steps.specs.declared.HearAnswer as hearings
 use Rattle.steps.specs.declared.BeaconAnswer as beacons
-use Rattle.single.specs.declared.Fresh.{Fresh}
+use Rattle.single.specs.declared.FreshPost.{FreshPost}
 use Rattle.single.specs.declared.Ordered.{Ordered}
 use Rattle.single.specs.declared.Heard.{Heard}
 
@@ -26,7 +26,7 @@ freshRefusal lane posts sources dests =
     0)
 
 -- the fresh post, or the refusal beside a record of zeros
-unfoldable pub freshSingly : ℕ → ℕ → ℕ → ℕ → Fresh
+unfoldable pub freshSingly : ℕ → ℕ → ℕ → ℕ → FreshPost
 freshSingly lane posts sources dests =
     cond (eqb (freshRefusal lane posts sources dests) 0) (record { refusal = 0; post = freshPost lane posts sources dests })
     (record { refusal = freshRefusal lane posts sources dests; post = freshPost 0 0 0 0 })

@@ -10,7 +10,7 @@ ghost use Rattle.steps.specs.Answers.{orderNumber, hearNumber, beaconNumber};
 ghost use Rattle.single.specs.Single.{freshSingly, orderRefusalSingly, orderSingly, orderBuffer, hearRefusalSingly, hearSingly, hearBuffer, beaconRefusalSingly, beaconSingly, beaconBuffer};
 
 // A fresh post and 0, or the refusal (12, 21) and a record of zeros.
-pub struct Fresh {
+pub struct FreshPost {
     pub refusal: u8,
     pub post: Post,
 }
@@ -28,20 +28,20 @@ pub struct Heard {
 }
 
 // A fresh post by lane and roles (12, 21).
-pub fn fresh(lane: u8, posts: u8, sources: u8, dests: u8) -> Fresh
+pub fn fresh(lane: u8, posts: u8, sources: u8, dests: u8) -> FreshPost
     ensures { λ r. ⌜ r ≡ freshSingly lane posts sources dests ⌝ }
 {
     let post = Post::new(lane, posts, sources, dests);
     let number = cells::pick(!cells::has(posts, lane), 21, 0);
     let number = cells::pick(judge::refusal(post) != 0, 12, number);
     if number == 0 {
-        Fresh {
+        FreshPost {
             refusal: 0,
             post: post,
         }
     } else {
         let none = Post::new(0, 0, 0, 0);
-        Fresh {
+        FreshPost {
             refusal: number,
             post: none,
         }

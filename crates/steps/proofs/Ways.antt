@@ -109,7 +109,7 @@ pub take-other : (p : Post) (f : Frame) (place : ℕ) (t last stamps words : Lis
 unfolding taken ticked kept raisedPost
 take-other p f place t last stamps words b e et el es ew eb s = rw (et, el, es, ew, e, sym eb ∙ s)
 
-taken-lane : (p : Post) (f : Frame) → taken p f .lane ≡ p .lane
+pub taken-lane : (p : Post) (f : Frame) → taken p f .lane ≡ p .lane
 unfolding taken ticked kept raisedPost
 taken-lane p f = go (isSource p (p .lane))
   where

@@ -114,6 +114,27 @@ fn a_fresh_post_takes_the_first_four_numbers() {
     }
 }
 
+/// Bytes of a response, and how a difference there is told.
+const FIELDS: [(usize, &str); 14] = [
+    (0, "answer: second implementation 2, program 19"),
+    (5, "stamp of the order: second implementation 0, program 17"),
+    (31, "byte 31, which is 0 in every response"),
+    (95, "byte 63 of the frame's area"),
+    (96, "byte 0 of the buffer's area"),
+    (163, "dests"),
+    (165, "clock: second implementation 4, program 21"),
+    (166, "own serial"),
+    (174, "last taken of lane 7"),
+    (446, "table at lane 7, serial 16"),
+    (447, "stamp of lane 0, serial 1"),
+    (958, "word of lane 7, serial 16"),
+    (960, "log at 1: second implementation 16, program 1"),
+    (
+        1087,
+        "length of the log: second implementation 2, program 19",
+    ),
+];
+
 #[test]
 fn a_difference_names_its_fields() {
     let differing = |at: usize| {
@@ -126,25 +147,7 @@ fn a_difference_names_its_fields() {
             response,
         })
     };
-    for (at, expected) in [
-        (0, "answer: second implementation 2, program 19"),
-        (5, "stamp of the order: second implementation 0, program 17"),
-        (31, "byte 31, which is 0 in every response"),
-        (95, "byte 63 of the frame's area"),
-        (96, "byte 0 of the buffer's area"),
-        (163, "dests"),
-        (165, "clock: second implementation 4, program 21"),
-        (166, "own serial"),
-        (174, "last taken of lane 7"),
-        (446, "table at lane 7, serial 16"),
-        (447, "stamp of lane 0, serial 1"),
-        (958, "word of lane 7, serial 16"),
-        (960, "log at 1: second implementation 16, program 1"),
-        (
-            1087,
-            "length of the log: second implementation 2, program 19",
-        ),
-    ] {
+    for (at, expected) in FIELDS {
         let text = differing(at);
         let lines: Vec<&str> = text
             .lines()

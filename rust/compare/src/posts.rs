@@ -103,8 +103,7 @@ impl Iterator for Requests {
 
 fn bytes_of(request: &Request) -> Bytes {
     let [high, low] = request.word.to_be_bytes();
-    let lengths = [request.frame.length, request.buffer.length];
-    let [frame, buffer] = lengths;
+    let (frame, buffer) = (request.frame.length, request.buffer.length);
     request.write_with([request.step as u8, high, low, frame, buffer, 0])
 }
 

@@ -22,7 +22,7 @@ pub struct History {
     /// One in so many steps is an order or a beacon.
     order_one_in: u16,
     beacon_one_in: u16,
-    /// One in so many hearings is of a frame that will be taken.
+    /// One in so many hearings is sought to be taken or early.
     orderly_one_in: u16,
     /// Where the clocks start: 0, or near their end.
     start: Stamp,

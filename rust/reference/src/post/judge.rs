@@ -28,6 +28,7 @@ impl Post {
             && self.serial <= LAST_SERIAL
             && self.last.iter().all(|&last| Serial(last) <= LAST_SERIAL)
             && usize::from(self.logged) <= ORDERS
+            // 128 is a power of two: no bit from there on in any place.
             && usize::from(union(&self.log)) < ORDERS
     }
 

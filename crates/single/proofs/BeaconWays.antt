@@ -1,0 +1,81 @@
+-- The ways through `beacon`. Assumes nothing.
+use mathlib.Core.Path.{_≡_, refl, sym, _∙_}
+use mathlib.Core.Bool.{Bool, true, false, cond}
+use mathlib.Core.List.{List}
+use Prim.Native.Nat.{ℕ}
+use native.Mathlib.Omega.{arith}
+use lib.Dec.{eqb}
+use lib.ListN.{length}
+use borrow.Author.Tests.{ne-eqb, eqb-true, eqb-false}
+use Rattle.frame.specs.Layout.{bytesOf}
+use Rattle.frame.specs.ReadWrite.{noFrame, written}
+use Rattle.frame.proofs.Laws.{not-32, is-32}
+use Rattle.post.specs.declared.Post.{Post}
+use Rattle.post.specs.Newest.{beaconFrame}
+use Rattle.judge.specs.Judgement.{badRecord, recordRefusal}
+use Rattle.steps.specs.Refusals.{beaconRefusal}
+use Rattle.steps.specs.Steps.{beaconStep}
+use Rattle.steps.specs.declared.BeaconAnswer as beacons
+use Rattle.steps.specs.declared.Beaconed.{Beaconed}
+use Rattle.single.specs.Single.{beaconRefusalSingly, beaconSingly, beaconBuffer}
+use Rattle.single.proofs.Broadcasts.{beacon-sendable}
+use Rattle.single.proofs.Judged.{record-bad, record-good, written-whole}
+
+beacon-refuses : (p : Post) (buffer : List ℕ) (n : ℕ) → beaconRefusalSingly p buffer ≡ n → (n ≡ 0 → ⊥)
+    → (beacons.the-variants.Refused n ≡ beaconSingly p buffer) × (buffer ≡ beaconBuffer p buffer)
+unfolding beaconSingly beaconBuffer
+beacon-refuses p buffer n e h = (rw (e, ne-eqb n 0 h), rw (e, ne-eqb n 0 h))
+
+pub beacon-short : (p : Post) (buffer : List ℕ) → (length buffer ≡ 32 → ⊥)
+    → (beacons.the-variants.Refused 6 ≡ beaconSingly p buffer) × (buffer ≡ beaconBuffer p buffer)
+unfolding beaconRefusalSingly
+beacon-short p buffer h = beacon-refuses p buffer 6 (not-32 buffer (cond (badRecord p) 12 (beaconRefusal p)) h) (λ z. omega arith)
+
+pub beacon-bad : (p : Post) (buffer : List ℕ) (n : ℕ) → length buffer ≡ 32 → n ≡ recordRefusal p → (n ≡ 0 → ⊥)
+    → (beacons.the-variants.Refused n ≡ beaconSingly p buffer) × (buffer ≡ beaconBuffer p buffer)
+unfolding beaconRefusalSingly
+beacon-bad p buffer n l e h =
+    let b = record-bad p n e h in
+    beacon-refuses p buffer n (is-32 buffer (cond (badRecord p) 12 (beaconRefusal p)) l ∙ rw (b .0) (sym (b .1))) h
+
+beacon-judged : (p : Post) (buffer : List ℕ) (n : ℕ) → length buffer ≡ 32 → n ≡ recordRefusal p → n ≡ 0 → beaconRefusalSingly p buffer ≡ beaconRefusal p
+unfolding beaconRefusalSingly
+beacon-judged p buffer n l e z = is-32 buffer (cond (badRecord p) 12 (beaconRefusal p)) l ∙ rw (record-good p n e z)
+
+-- a step's frame tells whether it was refused
+beacon-sent : (p : Post) → (beaconStep p .frame .kind ≡ 0 → ⊥)
+    → (beaconRefusal p ≡ 0) × (beaconStep p ≡ record { answer = beacons.the-variants.Sent; frame = beaconFrame p })
+unfolding beaconStep
+beacon-sent p h = go (eqb (beaconRefusal p) 0) refl
+  where
+    go : (b : Bool) → eqb (beaconRefusal p) 0 ≡ b
+        → (beaconRefusal p ≡ 0) × (beaconStep p ≡ record { answer = beacons.the-variants.Sent; frame = beaconFrame p })
+    go true e = (eqb-true (beaconRefusal p) 0 e, rw e)
+    go false e = absurd (h (rw e))
+
+beacon-silent : (p : Post) → beaconStep p .frame .kind ≡ 0
+    → (beaconRefusal p ≡ 0 → ⊥) × (beaconStep p ≡ record { answer = beacons.the-variants.Refused (beaconRefusal p); frame = noFrame })
+unfolding beaconStep
+beacon-silent p h = go (eqb (beaconRefusal p) 0) refl
+  where
+    go : (b : Bool) → eqb (beaconRefusal p) 0 ≡ b
+        → (beaconRefusal p ≡ 0 → ⊥) × (beaconStep p ≡ record { answer = beacons.the-variants.Refused (beaconRefusal p); frame = noFrame })
+    go true e = absurd (let t : _≡_ {A = ℕ} 2 0 = rw e at h in omega arith)
+    go false e = (eqb-false (beaconRefusal p) 0 e, rw e)
+
+pub beacon-writes : (p : Post) (buffer : List ℕ) (n : ℕ) (d : Beaconed) (exit : List ℕ) → length buffer ≡ 32 → n ≡ recordRefusal p → n ≡ 0
+    → d ≡ beaconStep p → (d .frame .kind ≡ 0 → ⊥) → exit ≡ written buffer (d .frame)
+    → (d .answer ≡ beaconSingly p buffer) × (exit ≡ beaconBuffer p buffer)
+unfolding beaconSingly beaconBuffer
+beacon-writes p buffer n d exit l e z ed k ex =
+    let s = beacon-sent p (rw ed at k) in
+    let r : beaconRefusalSingly p buffer ≡ 0 = beacon-judged p buffer n l e z ∙ s .0 in
+    (rw (r, ed, s .1), rw r (ex ∙ rw (ed, s .1) (written-whole buffer (beaconFrame p) l (beacon-sendable p (s .0)))))
+
+pub beacon-passes : (p : Post) (buffer : List ℕ) (n : ℕ) (d : Beaconed) → length buffer ≡ 32 → n ≡ recordRefusal p → n ≡ 0 → d ≡ beaconStep p
+    → d .frame .kind ≡ 0
+    → (d .answer ≡ beaconSingly p buffer) × (buffer ≡ beaconBuffer p buffer)
+beacon-passes p buffer n d l e z ed k =
+    let s = beacon-silent p (rw ed at k) in
+    let r = beacon-refuses p buffer (beaconRefusal p) (beacon-judged p buffer n l e z) (s .0) in
+    (rw (ed, s .1) (r .0), r .1)

@@ -1,0 +1,7 @@
+pub mod Broadcasts
+pub mod Numbers
+pub mod Judged
+pub mod OrderWays
+pub mod BeaconWays
+pub mod HearWays
+pub mod FreshWays

@@ -29,10 +29,10 @@ join-is p old marks least keys log n t eo em el eg ea et =
     let few : n ≤ length keys = omega (arith, s .few, s .long, ap length ek, ec) in
     let tk : take n keys ≡ sort (dueBelow p 128) = rw (ec, ek) (s .is) in
     let ln : n ≡ length (duePlaces p)
-        = sym (length-map (sort (dueBelow p 128)) (λ (key : ℕ). key % 128) ∙ ap length (sym tk) ∙ length-take n keys ∙ omega arith)
+    = sym (length-map (sort (dueBelow p 128)) (λ (key : ℕ). key % 128) ∙ ap length (sym tk) ∙ length-take n keys ∙ omega arith)
     in
     let lg : log ≡ sets (p .log) (p .logged) (duePlaces p)
-        = ea ∙ appended-is (p .log) (p .logged) keys n few ∙ ap (λ (x : List ℕ). sets (p .log) (p .logged) (map (λ (key : ℕ). key % 128) x)) tk
+    = ea ∙ appended-is (p .log) (p .logged) keys n few ∙ ap (λ (x : List ℕ). sets (p .log) (p .logged) (map (λ (key : ℕ). key % 128) x)) tk
     in
     rw (lg, et, ← ln)
 

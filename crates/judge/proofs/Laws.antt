@@ -57,7 +57,7 @@ pub lane-more : (last stamps words : List ℕ) (lane : ℕ) (n : Serial) (b x : 
 lane-more last stamps words lane n b x p e q =
     let s : (lane + 1) * 16 ≡ lane * 16 + 16 = omega arith in
     let y : x ≡ anyBelow (λ (k : ℕ). badOrderIn last stamps words (lane * 16 + k)) 16
-        = rw e at q ∙ any-same (badLaneIn (getD last lane 0) stamps words lane) (λ (k : ℕ). badOrderIn last stamps words (lane * 16 + k)) 16 (lane-there last stamps words lane)
+    = rw e at q ∙ any-same (badLaneIn (getD last lane 0) stamps words lane) (λ (k : ℕ). badOrderIn last stamps words (lane * 16 + k)) 16 (lane-there last stamps words lane)
     in
     rw (s, any-join (badOrderIn last stamps words) (lane * 16) 16) (ap₂ _||_ p y)
 
@@ -69,9 +69,11 @@ mark-says log i k mark t e = go (decLt i 128)
     twice : (a : Bool) → not (not a) ≡ a
     twice true = refl
     twice false = refl
+
     or-true : (a b : Bool) → (a || (true || b)) ≡ true
     or-true true b = refl
     or-true false b = refl
+
     go : Dec (i < 128) → (not (eqb mark 0) || (ltb 127 i || t)) ≡ (anyBelow (λ (j : ℕ). eqb (getD log j 0) i) k || (ltb 127 i || t))
     go (yes h) = rw (e, marks-log log i h k, twice)
     go (no h) =
@@ -103,10 +105,11 @@ log-parts last log logged n x y e p q =
     let s : n + (128 - n) ≡ 128 = omega arith in
     sym (ap (anyBelow (badLoggedIn last log logged)) (sym s) ∙ any-join (badLoggedIn last log logged) n (128 - n)
     ∙ ap₂ _||_ (any-same (badLoggedIn last log logged) (badUsedIn last log) n used ∙ sym p)
-        (any-same (λ (k : ℕ). badLoggedIn last log logged (n + k)) (λ (k : ℕ). badUnusedIn log (n + k)) (128 - n) unused ∙ sym q))
+    (any-same (λ (k : ℕ). badLoggedIn last log logged (n + k)) (λ (k : ℕ). badUnusedIn log (n + k)) (128 - n) unused ∙ sym q))
   where
     used : (k : ℕ) → k < n → badLoggedIn last log logged k ≡ badUsedIn last log k
     used k h = rw (lt-ltb k logged (omega arith), lt-leb logged k (omega arith)) (or-false (badUsedIn last log k))
+
     unused : (k : ℕ) → k < 128 - n → badLoggedIn last log logged (n + k) ≡ badUnusedIn log (n + k)
     unused k h = rw (le-ltb (n + k) logged (omega arith), le-leb logged (n + k) (omega arith))
 

@@ -71,7 +71,12 @@ fn bad_lane<'a>(lane: u8, last: Serial, stamps: &'a [u16; 128], words: &'a [u16;
     let mut bad = false;
     for k in 0..16u8 {
         let place = (lane * 16 + k) as usize;
-        bad = bad | bad_order(k < last.0, cells::stamp_at(stamps, place), cells::word_at(words, place));
+        bad = bad
+            | bad_order(
+                k < last.0,
+                cells::stamp_at(stamps, place),
+                cells::word_at(words, place),
+            );
     }
     bad
 }

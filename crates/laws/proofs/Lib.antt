@@ -4,3 +4,12 @@ pub mod NewestLaws
 pub mod ListLaws
 pub mod SortLaws
 pub mod LogLaws
+pub mod Valid
+pub mod ValidLog
+pub mod ValidFresh
+pub mod ValidTaking
+pub mod Accepted
+pub mod Hearable
+pub mod ValidSteps
+pub mod StepLaws
+pub mod Broadcasts

@@ -4,7 +4,7 @@ use mathlib.Core.List.{List, [], _∷_, _++_, map, append-nil, append-assoc}
 use mathlib.Core.Logic.{_⊎_, inl, inr, _≢_}
 use Prim.Native.Nat.{ℕ, zero, suc, _+_, _≤_, _<_}
 use native.Mathlib.Omega.{arith}
-use lib.ListN.{length, getD, set, take, length-append}
+use lib.ListN.{length, getD, set, length-append}
 use lib.Seq.{sets, getD-set-other}
 
 module _ {A : Type 0} where
@@ -96,9 +96,10 @@ module _ {A : Type 0} where
 
   pub at-no-repeat : (d : A) (l : List A) → ((j k : ℕ) → j < k → k < length l → getD l j d ≢ getD l k d) → NoRepeat l
   at-no-repeat d [] h = tt
-  at-no-repeat d (x ∷ l) h =
-      (λ m. let r = mem-which d x l m in h 0 (suc (r .0)) (omega arith) (omega (arith, r .1)) (sym (r .2)),
-       at-no-repeat d l (λ j k a b. h (suc j) (suc k) (omega arith) (omega arith)))
+  at-no-repeat d (x ∷ l) h = (
+    λ m. let r = mem-which d x l m in h 0 (suc (r .0)) (omega arith) (omega (arith, r .1)) (sym (r .2)),
+    at-no-repeat d l (λ j k a b. h (suc j) (suc k) (omega arith) (omega arith)),
+  )
 
 -- ---- lists of numbers
 
@@ -108,6 +109,7 @@ mem-map f x [] m = absurd m
 mem-map f x (y ∷ l) (inl e) = inl (ap f e)
 mem-map f x (y ∷ l) (inr m) = inr (mem-map f x l m)
 
+-- a member of the changed list comes from a member
 pub map-mem : (f : ℕ → ℕ) (y : ℕ) (l : List ℕ) → Mem y (map f l) → (x : ℕ) × Mem x l × (y ≡ f x)
 map-mem f y [] m = absurd m
 map-mem f y (x ∷ l) (inl e) = (x, inl refl, e)

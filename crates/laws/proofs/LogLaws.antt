@@ -1,21 +1,19 @@
 -- Delivery: which orders are due, in which order they join the log, and the log that results. Assumes nothing.
 use mathlib.Core.Path.{_≡_, refl, sym, ap, _∙_}
-use mathlib.Core.List.{List, [], _∷_, _++_, map}
+use mathlib.Core.List.{List, _∷_, _++_}
 use mathlib.Core.Logic.{_⊎_, inl, inr, _≢_}
 use mathlib.Core.Bool.{Bool, true, false, cond, not, _&&_, _||_}
-use Prim.Native.Nat.{ℕ, zero, suc, _+_, _*_, _/_, _%_, _<_, _≤_, min}
+use Prim.Native.Nat.{ℕ, zero, suc, _+_, _/_, _%_, _<_, _≤_, min}
 use native.Mathlib.Omega.{arith}
-use lib.Dec.{ltb, leb, eqb}
+use lib.Dec.{leb, eqb}
 use lib.ListN.{length, getD, take, drop, length-append}
 use lib.Seq.{sets, sets-eq, length-take-le, take-at, getD-take, length-sets}
-use borrow.Author.Tests.{ltb-true, lt-ltb, leb-true, le-leb, eqb-true, eqb-false, eq-eqb, ne-eqb, not-true}
-use Rattle.frame.specs.Lanes.{anyBelow}
+use borrow.Author.Tests.{leb-true, le-leb, eqb-true, eq-eqb, not-true}
 use Rattle.cells.specs.Tables.{stampUnder, keyOf}
 use Rattle.post.specs.declared.Post.{Post}
-use Rattle.post.specs.Record.{isSource, isDest, lastOf, withLog}
-use Rattle.deliver.specs.declared.Delivered.{Delivered}
+use Rattle.post.specs.Record.{isSource, isDest, lastOf}
 use Rattle.deliver.specs.Delivery.{allBelow, isTaken, isLogged, stampAt, agrees, isDue, dueBelow, sort, duePlaces, dueLog, delivered}
-use Rattle.laws.proofs.TestLaws.{same-or-not, true-or-false, not-both, and-parts, and-made, or-second, none-each, each-none, some-which, which-some, all-each, each-all}
+use Rattle.laws.proofs.TestLaws.{same-or-not, not-both, and-parts, and-made, or-second, some-which, which-some, all-each, each-all}
 use Rattle.laws.proofs.ListLaws.{Mem, NoRepeat, RisingBy, Rising, mem-at, mem-which, mem-map, map-mem, rising-once, rising-map, sets-past}
 use Rattle.laws.proofs.SortLaws.{sort-mem, mem-sort, sort-rising}
 
@@ -39,6 +37,7 @@ logged-mem p place l h e =
     let at : getD (take (p .logged) (p .log)) k 0 ≡ place = getD-take (p .logged) (p .log) k 0 b ∙ eqb-true (getD (p .log) k 0) place (r .2) in
     rw at at (mem-at 0 (logOf p) k (rw (length-take-le (p .logged) (p .log) (omega arith)) b))
 
+-- what stands in the log is marked as logged
 pub mem-logged : (p : Post) (place : ℕ) → p .logged ≤ 128 → length (p .log) ≡ 128 → Mem place (logOf p) → isLogged p place ≡ true
 unfolding isLogged
 mem-logged p place l h m =
@@ -55,6 +54,7 @@ pub record Due (p : Post) (place : ℕ) : Type 0 where
   pub unlogged : isLogged p place ≡ false
   pub agreed : (i : ℕ) → i < 8 → isSource p i ≡ true → stampAt p place ≤ stampUnder (p .table) i (lastOf p i)
 
+-- the test says just that
 pub is-due : (p : Post) (place : ℕ) → isDue p place ≡ true → Due p place
 unfolding isDue
 is-due p place e =
@@ -64,23 +64,25 @@ is-due p place e =
       taken = b .0;
       unlogged = not-true (isLogged p place) (b .1);
       agreed = λ i l s.
-        leb-true (stampAt p place) (stampUnder (p .table) i (lastOf p i))
-        (or-second (not (isSource p i)) (leb (stampAt p place) (stampUnder (p .table) i (lastOf p i)))
+          leb-true (stampAt p place) (stampUnder (p .table) i (lastOf p i))
+          (or-second (not (isSource p i)) (leb (stampAt p place) (stampUnder (p .table) i (lastOf p i)))
           (all-each (agrees p (stampAt p place)) 8 (a .1) i l) (ap not s));
     }
 
+-- a test of sources alone holds where each source passes it
 agrees-made : (source ready : Bool) → (source ≡ true → ready ≡ true) → (not source || ready) ≡ true
 agrees-made true ready h = h refl
 agrees-made false ready h = refl
 
+-- and the other way round
 pub due-is : (p : Post) (place : ℕ) → Due p place → isDue p place ≡ true
 unfolding isDue
 due-is p place d =
     and-made (isTaken p place && not (isLogged p place)) (allBelow (agrees p (stampAt p place)) 8)
     (and-made (isTaken p place) (not (isLogged p place)) (d .taken) (ap not (d .unlogged)))
     (each-all (agrees p (stampAt p place)) 8
-      (λ i l. agrees-made (isSource p i) (leb (stampAt p place) (stampUnder (p .table) i (lastOf p i)))
-        (λ s. le-leb (stampAt p place) (stampUnder (p .table) i (lastOf p i)) (d .agreed i l s))))
+    (λ i l. agrees-made (isSource p i) (leb (stampAt p place) (stampUnder (p .table) i (lastOf p i)))
+    (λ s. le-leb (stampAt p place) (stampUnder (p .table) i (lastOf p i)) (d .agreed i l s))))
 
 -- ---- the keys of the due orders
 
@@ -109,6 +111,7 @@ due-key p (suc n) key m = go (isDue p n) refl m (due-key p n key)
     go true e (inr k) ih = up (ih k)
     go false e k ih = up (ih k)
 
+-- the key of each due order is among the keys
 pub key-due : (p : Post) (n place : ℕ) → place < n → isDue p place ≡ true → Mem (keyAt p place) (dueBelow p n)
 unfolding dueBelow
 key-due p zero place h d = absurd (omega arith)
@@ -178,7 +181,7 @@ sets-follow : (l vs : List ℕ) (i : ℕ) → i + length vs ≤ length l → tak
 sets-follow l vs i h =
     rw (sets-eq vs l i h)
     (take-at (take i l ++ vs) (drop (i + length vs) l) (i + length vs)
-      (length-append (take i l) vs ∙ ap (λ (k : ℕ). k + length vs) (length-take-le i l (omega arith))))
+    (length-append (take i l) vs ∙ ap (λ (k : ℕ). k + length vs) (length-take-le i l (omega arith))))
 
 -- what delivery at a destination leaves
 pub record Joined (p q : Post) : Type 0 where
@@ -187,6 +190,7 @@ pub record Joined (p q : Post) : Type 0 where
   pub past : (k : ℕ) → q .logged ≤ k → getD (q .log) k 0 ≡ getD (p .log) k 0
   pub long : length (q .log) ≡ length (p .log)
 
+-- the log after delivery at a destination is the old log, and then the due orders, lowest key first; past the end it is as before
 pub delivered-joins : (p : Post) → isDest p (p .lane) ≡ true → length (p .log) ≡ 128 → p .logged + length (duePlaces p) ≤ 128
     → Joined p (delivered p .post)
 unfolding delivered dueLog

@@ -1,14 +1,13 @@
 -- The newest entry of a lane, and that every broadcast of a post can be written. Assumes nothing.
-use mathlib.Core.Path.{_≡_, refl, sym, ap, _∙_}
+use mathlib.Core.Path.{_≡_, refl}
 use mathlib.Core.Logic.{_⊎_, inl, inr, _≢_}
-use mathlib.Core.Bool.{Bool, true, false, cond, not, _&&_, _||_}
+use mathlib.Core.Bool.{Bool, true, false, cond, not, _&&_}
 use mathlib.Core.List.{List}
-use Prim.Native.Nat.{ℕ, zero, suc, _+_, _*_, _<_, _≤_}
+use Prim.Native.Nat.{ℕ, zero, suc, _<_, _≤_}
 use native.Mathlib.Omega.{arith}
 use lib.Dec.{ltb, leb, eqb}
 use lib.ListN.{length, getD, List·getD-eq-default}
-use borrow.Author.Tests.{ltb-true, ltb-false, leb-true, leb-false, le-ltb, ne-eqb, lt-ltb, le-leb, eqb-true}
-use Rattle.frame.specs.Lanes.{anyBelow}
+use borrow.Author.Tests.{ltb-true, leb-true, leb-false, le-ltb, ne-eqb, lt-ltb, eqb-true}
 use Rattle.frame.specs.Layout.{noEntry, entryOf, Fits}
 use Rattle.frame.specs.Refusals.{badEntry, badEntries, frameRefusal}
 use Rattle.frame.specs.declared.Entry.{Entry}
@@ -64,6 +63,7 @@ newer-stays table lane n e h is = record {
     late serial l a b (inl q) = absurd (omega (arith, h (rw q at a), rw q at b))
     late serial l a b (inr q) = is .last serial (omega arith) a b
 
+-- one serial more is looked at
 newer-is : (table : List ℕ) (lane n : ℕ) (e : Entry) → IsNewest table lane n e → IsNewest table lane (suc n) (newer table lane n e)
 unfolding newer
 newer-is table lane n e is = go (ltb 0 (stampUnder table lane n) && leb (e .stamp .0) (stampUnder table lane n)) refl
@@ -78,9 +78,10 @@ newer-is table lane n e is = go (ltb 0 (stampUnder table lane n) && leb (e .stam
     go false q =
         newer-stays table lane n e
         (λ h. leb-false (e .stamp .0) (stampUnder table lane n)
-          (and-second (ltb 0 (stampUnder table lane n)) (leb (e .stamp .0) (stampUnder table lane n)) q (lt-ltb 0 (stampUnder table lane n) h)))
+        (and-second (ltb 0 (stampUnder table lane n)) (leb (e .stamp .0) (stampUnder table lane n)) q (lt-ltb 0 (stampUnder table lane n) h)))
         is
 
+-- after the serials below n, the newest of them is found
 pub newest-below : (table : List ℕ) (lane n : ℕ) → IsNewest table lane n (newestBelow table lane n)
 unfolding newestBelow
 newest-below table lane zero = record {
@@ -133,6 +134,7 @@ newest-serial table lane = go (same-or-not (newest table lane .stamp .0) 0)
     go (inl e) = rw (newest-is table lane .none e) (omega arith)
     go (inr e) = omega (arith, newest-is table lane .found (omega arith) .0)
 
+-- the newest stamp is under every bound of the table
 pub newest-under : (table : List ℕ) (lane bound : ℕ) → 0 < bound → ((j : ℕ) → getD table j 0 < bound) → newest table lane .stamp .0 < bound
 unfolding stampUnder
 newest-under table lane bound b h = go (same-or-not (newest table lane .stamp .0) 0)
@@ -166,10 +168,12 @@ newest-entry table (suc (suc (suc (suc (suc (suc zero)))))) h = refl
 newest-entry table (suc (suc (suc (suc (suc (suc (suc zero))))))) h = refl
 newest-entry table (suc (suc (suc (suc (suc (suc (suc (suc n)))))))) h = absurd (omega arith)
 
+-- a broadcast has eight entries
 newest-count : (table : List ℕ) → length (newestEntries table) ≡ 8
 unfolding newestEntries
 newest-count table = refl
 
+-- their stamps have 16 bits where the table's have
 newest-stamps : (table : List ℕ) → ((j : ℕ) → getD table j 0 < 65536) → (lane : ℕ) → getD (newestEntries table) lane noEntry .stamp .0 < 65536
 newest-stamps table h lane = go (below-or-not lane 8)
   where
@@ -177,6 +181,7 @@ newest-stamps table h lane = go (below-or-not lane 8)
     go (inl l) = rw (newest-entry table lane l) (newest-under table lane 65536 (omega arith) h)
     go (inr l) = rw (List·getD-eq-default (newestEntries table) noEntry {n = lane} (rw newest-count l)) (omega arith)
 
+-- a frame with these entries is not turned down by 11
 newest-bad : (f : Frame) (table : List ℕ) → f .entries ≡ newestEntries table → badEntries f ≡ false
 unfolding badEntries
 newest-bad f table e =
@@ -185,10 +190,12 @@ newest-bad f table e =
 
 -- ---- broadcasts can be written
 
+-- a beacon of a post with a lane up to 7 is not refused
 pub beacon-accepted : (p : Post) → p .lane < 8 → frameRefusal (beaconFrame p) ≡ 0
 unfolding frameRefusal
 beacon-accepted p h = rw (le-ltb 7 (p .lane) (omega arith), newest-bad (beaconFrame p) (p .table) refl)
 
+-- an order broadcast by a post with a lane up to 7, of a lane, serial and stamp in their ranges, is not refused
 pub order-accepted : (p : Post) (lane serial stamp word : ℕ) → p .lane < 8 → lane < 8 → 0 < serial → serial ≤ 16 → 0 < stamp
     → frameRefusal (orderFrame p lane serial stamp word) ≡ 0
 unfolding frameRefusal
@@ -202,6 +209,7 @@ order-accepted p lane serial stamp word h l a b c =
       newest-bad (orderFrame p lane serial stamp word) (p .table) refl,
     )
 
+-- a beacon is a frame of its type
 pub beacon-fits : (p : Post) → ((j : ℕ) → getD (p .table) j 0 < 65536) → Fits (beaconFrame p)
 beacon-fits p h = record {
   stamp = omega arith;
@@ -210,6 +218,7 @@ beacon-fits p h = record {
   stamps = newest-stamps (p .table) h;
 }
 
+-- a broadcast order is a frame of its type
 pub order-fits : (p : Post) (lane serial stamp word : ℕ) → ((j : ℕ) → getD (p .table) j 0 < 65536) → stamp < 65536 → word < 65536
     → Fits (orderFrame p lane serial stamp word)
 order-fits p lane serial stamp word h s w = record { stamp = s; word = w; count = newest-count (p .table); stamps = newest-stamps (p .table) h }

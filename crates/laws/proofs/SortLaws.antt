@@ -1,9 +1,9 @@
 -- Sorting keys: the result is sorted, has each number as often as before, and rises strictly where nothing stood twice. Assumes nothing.
-use mathlib.Core.Path.{_≡_, refl, sym, ap, _∙_}
+use mathlib.Core.Path.{_≡_, refl}
 use mathlib.Core.List.{List, [], _∷_}
 use mathlib.Core.Logic.{_⊎_, inl, inr, _≢_}
 use mathlib.Core.Bool.{cond}
-use Prim.Native.Nat.{ℕ, zero, suc, _+_, _<_, _≤_, max, min}
+use Prim.Native.Nat.{ℕ, _+_, _<_, _≤_, max, min}
 use native.Mathlib.Omega.{arith}
 use native.Mathlib.Decide.{decLt}
 use lib.Dec.{eqb}
@@ -22,15 +22,18 @@ abbrev pub Sorted : List ℕ → Type 0
 Sorted [] = 0 ≤ 0
 Sorted (x ∷ xs) = Low x xs × Sorted xs
 
+-- what is below a low number is low
 low-more : (m n : ℕ) (l : List ℕ) → m ≤ n → Low n l → Low m l
 low-more m n [] h k = omega arith
 low-more m n (y ∷ ys) h k = (omega (arith, k .0), low-more m n ys h (k .1))
 
+-- a low number is low after an insertion of one not below it
 low-insert : (m z : ℕ) (l : List ℕ) → m ≤ z → Low m l → Low m (insertKey z l)
 unfolding insertKey
 low-insert m z [] h k = (h, k)
 low-insert m z (y ∷ ys) h k = (omega (arith, k .0), low-insert m (max y z) ys (omega arith) (k .1))
 
+-- an insertion keeps a list sorted
 insert-sorted : (x : ℕ) (l : List ℕ) → Sorted l → Sorted (insertKey x l)
 unfolding insertKey
 insert-sorted x [] s = (omega arith, s)
@@ -48,6 +51,7 @@ abbrev pub times : ℕ → List ℕ → ℕ
 times z [] = 0
 times z (y ∷ ys) = cond (eqb z y) 1 0 + times z ys
 
+-- the smaller and the larger of two numbers are the two
 two : (z x y : ℕ) → Dec (y < x) → cond (eqb z (min y x)) 1 0 + cond (eqb z (max y x)) 1 0 ≡ cond (eqb z x) 1 0 + cond (eqb z y) 1 0
 two z x y (yes h) =
     let a : min y x ≡ y = omega arith in
@@ -58,6 +62,7 @@ two z x y (no h) =
     let b : max y x ≡ y = omega arith in
     rw (a, b)
 
+-- an insertion adds the number once
 insert-times : (z x : ℕ) (l : List ℕ) → times z (insertKey x l) ≡ times z (x ∷ l)
 unfolding insertKey
 insert-times z x [] = refl
@@ -71,11 +76,13 @@ sort-times z (x ∷ xs) = omega (arith, insert-times z x (sort xs), sort-times z
 
 -- ---- what is counted is a member, and what stands once is not repeated
 
+-- a member is counted
 pub mem-times : (z : ℕ) (l : List ℕ) → Mem z l → 0 < times z l
 mem-times z [] m = absurd m
 mem-times z (y ∷ l) (inl e) = rw (eq-eqb z y e) (omega arith)
 mem-times z (y ∷ l) (inr m) = omega (arith, mem-times z l m)
 
+-- what is counted is a member
 pub times-mem : (z : ℕ) (l : List ℕ) → 0 < times z l → Mem z l
 times-mem z [] h = omega arith
 times-mem z (y ∷ l) h = go (same-or-not z y) (times-mem z l)
@@ -84,6 +91,7 @@ times-mem z (y ∷ l) h = go (same-or-not z y) (times-mem z l)
     go (inl e) ih = inl e
     go (inr e) ih = inr (ih (let k = rw (ne-eqb z y e) at h in omega arith))
 
+-- where nothing stands twice, each number is counted once at most
 pub once-times : (z : ℕ) (l : List ℕ) → NoRepeat l → times z l ≤ 1
 once-times z [] n = omega arith
 once-times z (y ∷ l) n = go (same-or-not z y) (once-times z l (n .1)) (same-or-not (times z l) 0)
@@ -93,6 +101,7 @@ once-times z (y ∷ l) n = go (same-or-not z y) (once-times z l (n .1)) (same-or
     go (inl e) ih (inr t) = absurd (n .0 (rw e at (times-mem z l (omega arith))))
     go (inr e) ih t = rw (ne-eqb z y e) (omega arith)
 
+-- and the other way round
 pub times-once : (l : List ℕ) → ((z : ℕ) → times z l ≤ 1) → NoRepeat l
 times-once [] h = tt
 times-once (y ∷ l) h =
@@ -100,20 +109,25 @@ times-once (y ∷ l) h =
 
 -- ---- so for the sorted list
 
+-- sorting adds no member
 pub sort-mem : (z : ℕ) (l : List ℕ) → Mem z (sort l) → Mem z l
 sort-mem z l m = times-mem z l (omega (arith, mem-times z (sort l) m, sort-times z l))
 
+-- sorting loses no member
 pub mem-sort : (z : ℕ) (l : List ℕ) → Mem z l → Mem z (sort l)
 mem-sort z l m = times-mem z (sort l) (omega (arith, mem-times z l m, sort-times z l))
 
+-- sorting repeats nothing
 pub sort-once : (l : List ℕ) → NoRepeat l → NoRepeat (sort l)
 sort-once l n = times-once (sort l) (λ z. omega (arith, sort-times z l, once-times z l n))
 
+-- a low number is at most each member
 low-mem : (m z : ℕ) (l : List ℕ) → Low m l → Mem z l → m ≤ z
 low-mem m z [] h k = absurd k
 low-mem m z (y ∷ l) h (inl e) = omega (arith, h .0)
 low-mem m z (y ∷ l) h (inr k) = low-mem m z l (h .1) k
 
+-- a sorted list without repetition rises strictly
 sorted-rising : (l : List ℕ) → Sorted l → NoRepeat l → Rising l
 sorted-rising [] s n = tt
 sorted-rising (x ∷ l) s n =

@@ -1,12 +1,12 @@
 -- The flat arrays of a post: places, looking up after a change, raising by a frame's entries, keeping an order. Assumes nothing.
-use mathlib.Core.Path.{_≡_, refl, sym, ap, _∙_}
+use mathlib.Core.Path.{_≡_, refl, _∙_}
 use mathlib.Core.Logic.{_⊎_, inl, inr, _≢_}
-use mathlib.Core.Bool.{Bool, true, false, cond}
+use mathlib.Core.Bool.{cond}
 use mathlib.Core.List.{List}
-use Prim.Native.Nat.{ℕ, zero, suc, _+_, _-_, _*_, _<_, _≤_, max}
+use Prim.Native.Nat.{ℕ, zero, suc, _<_, _≤_, max}
 use native.Mathlib.Omega.{arith}
 use lib.Dec.{eqb}
-use lib.ListN.{length, getD, set, length-set, List·getD-eq-default}
+use lib.ListN.{length, getD, set, length-set}
 use lib.Seq.{getD-set-same, getD-set-other, set-out}
 use borrow.Author.Tests.{eq-eqb, ne-eqb}
 use Rattle.frame.specs.Layout.{noEntry}
@@ -50,11 +50,13 @@ set-below l i v bound h k j = set-case (λ (x : ℕ). x < bound) l i v j (λ e b
 
 -- ---- one entry of the table is changed
 
+-- at its own place there is the new stamp
 pub stamp-same : (table : List ℕ) (lane serial stamp : ℕ) → entryPlace lane serial < length table
     → stampUnder (withStamp table lane serial stamp) lane serial ≡ stamp
 unfolding stampUnder withStamp
 stamp-same table lane serial stamp h = getD-set-same table (entryPlace lane serial) stamp 0 h
 
+-- at another place the old one
 pub stamp-other : (table : List ℕ) (lane serial stamp lane' serial' : ℕ) → entryPlace lane' serial' ≢ entryPlace lane serial
     → stampUnder (withStamp table lane serial stamp) lane' serial' ≡ stampUnder table lane' serial'
 unfolding stampUnder withStamp
@@ -67,10 +69,12 @@ stamp-apart table lane serial stamp lane' serial' h k n =
     stamp-other table lane serial stamp lane' serial'
     (λ e. let r = entry-places lane' serial' lane serial k h e in n (r .0) (r .1))
 
+-- the table is as long as before
 pub stamp-length : (table : List ℕ) (lane serial stamp : ℕ) → length (withStamp table lane serial stamp) ≡ length table
 unfolding withStamp
 stamp-length table lane serial stamp = length-set table (entryPlace lane serial) stamp
 
+-- all stamps stay below a bound
 pub stamp-below : (table : List ℕ) (lane serial stamp bound : ℕ) → stamp < bound → ((j : ℕ) → getD table j 0 < bound)
     → (j : ℕ) → getD (withStamp table lane serial stamp) j 0 < bound
 unfolding withStamp
@@ -92,6 +96,7 @@ unfolding raised
 raised-other table lane e lane' serial' n =
     stamp-other table lane (e .serial .0) (max (stampUnder table lane (e .serial .0)) (e .stamp .0)) lane' serial' n
 
+-- raising keeps the table's length
 pub raised-length : (table : List ℕ) (lane : ℕ) (e : Entry) → length (raised table lane e) ≡ length table
 unfolding raised
 raised-length table lane e = stamp-length table lane (e .serial .0) (max (stampUnder table lane (e .serial .0)) (e .stamp .0))
@@ -107,6 +112,7 @@ raised-rises table lane e lane' serial' =
     (λ q b. rw q (omega arith))
     (omega arith)
 
+-- raising keeps all stamps below a bound
 pub raised-under : (table : List ℕ) (lane : ℕ) (e : Entry) (bound : ℕ) → e .stamp .0 < bound → ((j : ℕ) → getD table j 0 < bound)
     → (j : ℕ) → getD (raised table lane e) j 0 < bound
 unfolding raised stampUnder
@@ -119,6 +125,7 @@ raised-under table lane e bound h k =
 abbrev pub raisedTo : ℕ → Entry → ℕ → ℕ
 raisedTo old e serial = cond (eqb (e .serial .0) serial) (max old (e .stamp .0)) old
 
+-- one entry raises its lane at its serial, and nowhere else
 raised-lane : (table : List ℕ) (lane : ℕ) (e : Entry) (serial : ℕ) → length table ≡ 136 → e .serial .0 ≤ 16 → lane < 8 → serial < 17
     → stampUnder (raised table lane e) lane serial ≡ raisedTo (stampUnder table lane serial) e serial
 raised-lane table lane e serial l h k s = go (same-or-not (e .serial .0) serial)
@@ -128,6 +135,7 @@ raised-lane table lane e serial l h k s = go (same-or-not (e .serial .0) serial)
     go (inl q) = rw (eq-eqb (e .serial .0) serial q, ← q) (raised-same table lane e (omega arith))
     go (inr q) = rw (ne-eqb (e .serial .0) serial q) (raised-other table lane e lane serial (λ w. q (omega arith)))
 
+-- raising by entries keeps the table's length
 pub all-raised-length : (table : List ℕ) (entries : List Entry) (n : ℕ) → length (raisedBelow table entries n) ≡ length table
 unfolding raisedBelow
 all-raised-length table entries zero = refl
@@ -146,6 +154,7 @@ all-raised-rises table entries (suc n) lane serial =
       raised-rises (raisedBelow table entries n) n (getD entries n noEntry) lane serial,
     )
 
+-- raising by entries keeps all stamps below a bound
 pub all-raised-under : (table : List ℕ) (entries : List Entry) (n bound : ℕ) → ((i : ℕ) → getD entries i noEntry .stamp .0 < bound)
     → ((j : ℕ) → getD table j 0 < bound)
     → (j : ℕ) → getD (raisedBelow table entries n) j 0 < bound
@@ -164,6 +173,7 @@ all-raised-above table entries (suc n) lane serial h k l s =
     raised-other (raisedBelow table entries n) n (getD entries n noEntry) lane serial (λ q. omega (arith, h n (omega arith)))
     ∙ all-raised-above table entries n lane serial h (omega arith) l s
 
+-- a lane whose entry has been looked at
 all-raised-below : (table : List ℕ) (entries : List Entry) (n lane serial : ℕ) → length table ≡ 136
     → ((i : ℕ) → i < 8 → getD entries i noEntry .serial .0 ≤ 16) → n ≤ 8 → lane < n → serial < 17
     → stampUnder (raisedBelow table entries n) lane serial ≡ raisedTo (stampUnder table lane serial) (getD entries lane noEntry) serial
@@ -194,28 +204,34 @@ all-raised table entries lane serial t h l s = all-raised-below table entries 8 
 
 -- ---- an order is kept
 
+-- "last taken from q becomes n"
 pub kept-last-same : (p : Post) (q n stamp word : ℕ) → length (p .last) ≡ 8 → q < 8 → lastOf (kept p q n stamp word) q ≡ n
 unfolding kept
 kept-last-same p q n stamp word l h = getD-set-same (p .last) q n 0 (omega arith)
 
+-- that of every other lane stays
 pub kept-last-other : (p : Post) (q n stamp word i : ℕ) → i ≢ q → lastOf (kept p q n stamp word) i ≡ lastOf p i
 unfolding kept
 kept-last-other p q n stamp word i h = getD-set-other (p .last) q i n 0 h
 
+-- the stamp at the order's place is the order's
 pub kept-stamp-same : (p : Post) (q n stamp word : ℕ) → length (p .stamps) ≡ 128 → orderPlace q n < 128
     → stampAt (kept p q n stamp word) (orderPlace q n) ≡ stamp
 unfolding kept
 kept-stamp-same p q n stamp word l h = getD-set-same (p .stamps) (orderPlace q n) stamp 0 (rw l h)
 
+-- the stamp at another place stays
 pub kept-stamp-other : (p : Post) (q n stamp word place : ℕ) → place ≢ orderPlace q n → stampAt (kept p q n stamp word) place ≡ stampAt p place
 unfolding kept
 kept-stamp-other p q n stamp word place h = getD-set-other (p .stamps) (orderPlace q n) place stamp 0 h
 
+-- the word at the order's place is the order's
 pub kept-word-same : (p : Post) (q n stamp word : ℕ) → length (p .words) ≡ 128 → orderPlace q n < 128
     → wordAt (kept p q n stamp word) (orderPlace q n) ≡ word
 unfolding kept
 kept-word-same p q n stamp word l h = getD-set-same (p .words) (orderPlace q n) word 0 (rw l h)
 
+-- the word at another place stays
 pub kept-word-other : (p : Post) (q n stamp word place : ℕ) → place ≢ orderPlace q n → wordAt (kept p q n stamp word) place ≡ wordAt p place
 unfolding kept
 kept-word-other p q n stamp word place h = getD-set-other (p .words) (orderPlace q n) place word 0 h

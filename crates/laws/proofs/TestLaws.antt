@@ -5,6 +5,8 @@ use mathlib.Core.Bool.{Bool, true, false, cond, not, _&&_, _||_}
 use Prim.Native.Nat.{ℕ, zero, suc, _<_, _≤_}
 use native.Mathlib.Omega.{arith}
 use native.Mathlib.Decide.{ℕ-discrete, decLt}
+use lib.Dec.{eqb}
+use borrow.Author.Tests.{eqb-true, eqb-false, not-false}
 use Rattle.frame.specs.Lanes.{anyBelow}
 use Rattle.deliver.specs.Delivery.{allBelow}
 
@@ -33,17 +35,21 @@ true-or-false false = inr refl
 pub not-both : (a : Bool) → a ≡ true → a ≡ false → ⊥
 not-both a p q = let z : _≡_ {A = ℕ} 0 1 = cc in omega arith
 
+-- both parts of a joined test hold where it does
 pub and-parts : (a b : Bool) → (a && b) ≡ true → (a ≡ true) × (b ≡ true)
 and-parts true b e = (refl, e)
 and-parts false b e = absurd (not-both false e refl)
 
+-- and the other way round
 pub and-made : (a b : Bool) → a ≡ true → b ≡ true → (a && b) ≡ true
 and-made a b p q = ap₂ _&&_ p q
 
+-- neither of two tests holds where not one does
 pub or-parts : (a b : Bool) → (a || b) ≡ false → (a ≡ false) × (b ≡ false)
 or-parts true b e = absurd (not-both true refl e)
 or-parts false b e = (refl, e)
 
+-- and the other way round
 pub or-made : (a b : Bool) → a ≡ false → b ≡ false → (a || b) ≡ false
 or-made a b p q = ap₂ _||_ p q
 
@@ -57,9 +63,22 @@ pub and-fails : (a b : Bool) → (a ≡ true → b ≡ false) → (a && b) ≡ f
 and-fails true b h = h refl
 and-fails false b h = refl
 
+-- of two tests of which one holds, and not the first, the second does
 pub or-second : (a b : Bool) → (a || b) ≡ true → a ≡ false → b ≡ true
 or-second true b e h = absurd (not-both true refl h)
 or-second false b e h = e
+
+-- a chain of refusals goes on past a test that fails
+pub goes-on : (t : Bool) (k r : ℕ) → t ≡ false → r ≡ 0 → cond t k r ≡ 0
+goes-on t k r e z = rw e z
+
+-- a number is 0 where the test for another fails
+pub zero-of : (n : ℕ) → not (eqb n 0) ≡ false → n ≡ 0
+zero-of n e = eqb-true n 0 (not-false (eqb n 0) e)
+
+-- a number is above 0 where the test for 0 fails
+pub above-zero : (n : ℕ) → eqb n 0 ≡ false → 0 < n
+above-zero n e = let h : n ≢ 0 = eqb-false n 0 e in omega arith
 
 -- no test below n holds: at each number
 pub none-each : (test : ℕ → Bool) (n : ℕ) → anyBelow test n ≡ false → (i : ℕ) → i < n → test i ≡ false
@@ -71,6 +90,7 @@ none-each test (suc n) e i h = go (or-parts (anyBelow test n) (test n) e) (same-
     go b (inl q) ih = rw q (b .1)
     go b (inr q) ih = ih (b .0) (omega arith)
 
+-- and the other way round
 pub each-none : (test : ℕ → Bool) (n : ℕ) → ((i : ℕ) → i < n → test i ≡ false) → anyBelow test n ≡ false
 unfolding anyBelow
 each-none test zero h = refl
@@ -87,6 +107,7 @@ some-which test (suc n) e = go (true-or-false (anyBelow test n)) (some-which tes
     go (inl q) ih = let r = ih q in (r .0, omega (arith, r .1), r .2)
     go (inr q) ih = (n, omega arith, or-second (anyBelow test n) (test n) e q)
 
+-- and the other way round
 pub which-some : (test : ℕ → Bool) (n i : ℕ) → i < n → test i ≡ true → anyBelow test n ≡ true
 which-some test n i h e = go (true-or-false (anyBelow test n))
   where
@@ -104,6 +125,7 @@ all-each test (suc n) e i h = go (and-parts (allBelow test n) (test n) e) (same-
     go b (inl q) ih = rw q (b .1)
     go b (inr q) ih = ih (b .0) (omega arith)
 
+-- and the other way round
 pub each-all : (test : ℕ → Bool) (n : ℕ) → ((i : ℕ) → i < n → test i ≡ true) → allBelow test n ≡ true
 unfolding allBelow
 each-all test zero h = refl

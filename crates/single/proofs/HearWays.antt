@@ -124,7 +124,7 @@ hear-writes p bytes buffer f d exit r l ed k ex =
     let e : d ≡ hearStep p (frameOf bytes) = ed ∙ ap (hearStep p) (r .frame) in
     let s = hear-took p (frameOf bytes) (rw e at k) in
     let w : written buffer (hearTaken p (frameOf bytes) .frame) ≡ bytesOf (hearTaken p (frameOf bytes) .frame)
-        = written-whole buffer (hearTaken p (frameOf bytes) .frame) l (taken-accepted p (frameOf bytes) (s .0) (s .1) (r .accepted))
+    = written-whole buffer (hearTaken p (frameOf bytes) .frame) l (taken-accepted p (frameOf bytes) (s .0) (s .1) (r .accepted))
     in
     (rw e (hear-answers p bytes buffer (r .judged)), rw (r .judged, s .0, s .1) (ex ∙ rw (e, s .2) w))
 

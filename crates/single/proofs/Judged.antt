@@ -30,4 +30,3 @@ record-good p n e z = go (badRecord p) refl
 -- a frame that is accepted is written whole
 pub written-whole : (buffer : List ℕ) (f : Frame) → length buffer ≡ 32 → frameRefusal f ≡ 0 → written buffer f ≡ bytesOf f
 written-whole buffer f l z = written-good buffer f (write-judges buffer f l ∙ z)
-

@@ -50,6 +50,7 @@ passes-on p bytes buffer e = go (eqb (readRefusal bytes) 0) refl
   where
     a : cond (eqb (readRefusal bytes) 0) (cond (badRecord p) 12 (hearRefusal p (frameOf bytes))) (readRefusal bytes) ≡ 0
     a = passed (badLength buffer) 6 (cond (eqb (readRefusal bytes) 0) (cond (badRecord p) 12 (hearRefusal p (frameOf bytes))) (readRefusal bytes)) (omega arith) (eqb-true _ 0 e) .1
+
     go : (b : Bool) → eqb (readRefusal bytes) 0 ≡ b → eqb (hearRefusal p (frameOf bytes)) 0 ≡ true
     go true q = eq-eqb (hearRefusal p (frameOf bytes)) 0 (passed (badRecord p) 12 (hearRefusal p (frameOf bytes)) (omega arith) (rw q at a) .1)
     go false q = absurd (eqb-false (readRefusal bytes) 0 q (rw q at a))

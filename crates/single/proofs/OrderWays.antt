@@ -68,7 +68,7 @@ order-writes p word buffer n d exit l e z ed k ex =
     let s = order-sent p word (rw ed at k) in
     let r : orderRefusalSingly p buffer ≡ 0 = order-judged p buffer n l e z ∙ s .0 in
     let w : written buffer (orderSent p word .frame) ≡ bytesOf (orderSent p word .frame)
-        = written-whole buffer (orderSent p word .frame) l (sent-accepted p word (s .0))
+    = written-whole buffer (orderSent p word .frame) l (sent-accepted p word (s .0))
     in
     (rw (r, ed, s .1), rw r (ex ∙ rw (ed, s .1) w))
 

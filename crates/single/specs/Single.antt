@@ -52,7 +52,7 @@ unfoldable pub hearRefusalSingly : Post → List ℕ → List ℕ → ℕ
 hearRefusalSingly p bytes buffer =
     cond (badLength buffer) 6
     (cond (eqb (readRefusal bytes) 0)
-        (cond (badRecord p) 12 (hearRefusal p (frameOf bytes)))
+    (cond (badRecord p) 12 (hearRefusal p (frameOf bytes)))
     (readRefusal bytes))
 
 unfoldable pub hearSingly : Post → List ℕ → List ℕ → Heard

@@ -48,12 +48,12 @@ take-own-is p word place table last stamps words e et el es ew = rw (et, el, es,
 pub send-is : (p q : Post) (word : ℕ) (entries : List Entry) (d : Delivered) → q ≡ ordered p word → entries ≡ newestEntries (q .table)
     → d ≡ delivered q
     → _≡_ {A = Ordered}
-        (record {
-          answer = orders.the-variants.Sent (q .serial) (q .clock) (d .count);
-          post = d .post;
-          frame = record { kind = 1; sender = p .lane; lane = p .lane; serial = q .serial; stamp = q .clock; word = word; entries = entries };
-        })
-        (orderSent p word)
+    (record {
+      answer = orders.the-variants.Sent (q .serial) (q .clock) (d .count);
+      post = d .post;
+      frame = record { kind = 1; sender = p .lane; lane = p .lane; serial = q .serial; stamp = q .clock; word = word; entries = entries };
+    })
+    (orderSent p word)
 unfolding orderSent ordered kept ticked
 send-is p q word entries d e en ed = rw (ed, en, e)
 
@@ -71,11 +71,11 @@ order-refused p word n f e h q = rw (← e, ne-eqb n 0 h, q)
 pub beacon-sends : (p : Post) (b : Bool) (entries : List Entry) → b ≡ hasLane (p .posts) (p .lane) → b ≡ true
     → entries ≡ newestEntries (p .table)
     → _≡_ {A = Beaconed}
-        (record {
-          answer = beacons.the-variants.Sent;
-          frame = record { kind = 2; sender = p .lane; lane = 0; serial = record { 0 = 0 }; stamp = record { 0 = 0 }; word = 0; entries = entries };
-        })
-        (beaconStep p)
+    (record {
+      answer = beacons.the-variants.Sent;
+      frame = record { kind = 2; sender = p .lane; lane = 0; serial = record { 0 = 0 }; stamp = record { 0 = 0 }; word = 0; entries = entries };
+    })
+    (beaconStep p)
 unfolding beaconStep
 beacon-sends p b entries e s en = rw (sym e ∙ s, en)
 
@@ -120,12 +120,12 @@ taken-lane p f = go (isSource p (p .lane))
 pub take-is : (p q : Post) (f : Frame) (entries : List Entry) (d : Delivered) → q ≡ taken p f → entries ≡ newestEntries (q .table)
     → d ≡ delivered q
     → _≡_ {A = Heard}
-        (record {
-          answer = hearings.the-variants.Taken (d .count);
-          post = d .post;
-          frame = record { kind = 1; sender = p .lane; lane = f .lane; serial = f .serial; stamp = f .stamp; word = f .word; entries = entries };
-        })
-        (hearTaken p f)
+    (record {
+      answer = hearings.the-variants.Taken (d .count);
+      post = d .post;
+      frame = record { kind = 1; sender = p .lane; lane = f .lane; serial = f .serial; stamp = f .stamp; word = f .word; entries = entries };
+    })
+    (hearTaken p f)
 unfolding hearTaken
 take-is p q f entries d e en ed =
     let l : taken p f .lane ≡ p .lane = taken-lane p f in

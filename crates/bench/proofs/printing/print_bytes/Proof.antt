@@ -1,8 +1,8 @@
 use borrow.Author.Needs.{needs}
 use Prim.Native.Nat.{_≤_, _-_}
 use lib.ListN.{length}
-use Rattle.bench.proofs.print_bytes.Statement.{statement}
-use Rattle.bench.proofs.print_bytes.Tie as tie
+use Rattle.bench.proofs.printing.print_bytes.Statement.{statement}
+use Rattle.bench.proofs.printing.print_bytes.Tie as tie
 
 abbrev Inv-loop : tie.InvT-loop
 Inv-loop bytes i₀ i = i ≤ length bytes

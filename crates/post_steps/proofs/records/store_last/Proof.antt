@@ -1,0 +1,15 @@
+use borrow.Author.Needs.{needs}
+use Prim.Native.Nat.{_≤_, _-_}
+use mathlib.Core.Path.{_≡_}
+use lib.ListN.{length}
+use Rattle.post_steps.proofs.records.store_last.Statement.{statement}
+use Rattle.post_steps.proofs.records.store_last.Tie as tie
+
+abbrev Inv-loop : tie.InvT-loop
+Inv-loop last request₀ i₀ request i = (i ≤ 8) × (length request ≡ length request₀)
+
+abbrev μ-loop : tie.MeasureT-loop
+μ-loop last request₀ i₀ request i = 8 - i
+
+pub store-last-spec : {M : Type 1} → statement M
+store-last-spec = tie.close (tie.spec Inv-loop μ-loop (λ c. search needs) (λ c κs. search needs) (λ c. search needs) (λ c. search needs) (λ c κs. search needs) (λ c. search needs) (λ c. search needs) (λ c. search needs) (λ c. search needs) (λ c. search needs))

@@ -77,11 +77,7 @@ fn print_items<'a>(n: u8, log: &'a [u8; 128], stamps: &'a [u16; 128], words: &'a
     for k in 0..n {
         let place = cells::byte_at(log, k as usize);
         let stamp = cells::stamp_at(stamps, place as usize);
-        print_item(
-            stamp.0,
-            place / 16,
-            cells::word_at(words, place as usize),
-        );
+        print_item(stamp.0, place / 16, cells::word_at(words, place as usize));
     }
 }
 

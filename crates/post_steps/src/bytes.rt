@@ -33,12 +33,20 @@ pub(crate) fn at_most(n: u8, limit: usize) -> usize
 // 64 bytes out of a request, and into it.
 pub(crate) fn copy_out(request: &[u8], from: u16, area: &mut [u8]) {
     for i in 0..64u8 {
-        put(area, i as usize, get(request, (from as usize) + (i as usize)));
+        put(
+            area,
+            i as usize,
+            get(request, (from as usize) + (i as usize)),
+        );
     }
 }
 
 pub(crate) fn copy_in(request: &mut [u8], from: u16, area: &[u8]) {
     for i in 0..64u8 {
-        put(request, (from as usize) + (i as usize), get(area, i as usize));
+        put(
+            request,
+            (from as usize) + (i as usize),
+            get(area, i as usize),
+        );
     }
 }

@@ -48,7 +48,12 @@ fn run(request: &mut [u8]) {
 }
 
 fn fresh(request: &mut [u8]) {
-    let made = single::fresh(get(request, 160), get(request, 161), get(request, 162), get(request, 163));
+    let made = single::fresh(
+        get(request, 160),
+        get(request, 161),
+        get(request, 162),
+        get(request, 163),
+    );
     let post = made.post;
     records::store(post, request);
     let code = cells::pick(made.refusal == 0, 7, 0);

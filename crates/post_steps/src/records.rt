@@ -12,7 +12,12 @@ pub(crate) fn load(request: &[u8]) -> Post {
     let clock = Stamp(pair(request, 164));
     let serial = Serial(get(request, 166));
     let logged = get(request, 1087);
-    let mut p = Post::new(get(request, 160), get(request, 161), get(request, 162), get(request, 163));
+    let mut p = Post::new(
+        get(request, 160),
+        get(request, 161),
+        get(request, 162),
+        get(request, 163),
+    );
     p.clock = clock;
     p.serial = serial;
     p.logged = logged;
@@ -88,7 +93,11 @@ fn store_numbers(numbers: &[u16; 128], from: u16, request: &mut [u8])
     requires { ⌜ from < 1000 ⌝ }
 {
     for i in 0..128u8 {
-        put_pair(request, from + 2 * (i as u16), cells::word_at(numbers, i as usize));
+        put_pair(
+            request,
+            from + 2 * (i as u16),
+            cells::word_at(numbers, i as usize),
+        );
     }
 }
 

@@ -5,3 +5,4 @@ pub mod OrderWays
 pub mod BeaconWays
 pub mod HearWays
 pub mod FreshWays
+pub mod Lasting

@@ -70,9 +70,9 @@ pub fn order(p: Post, word: u16, buffer: &mut [u8]) -> Ordered
     let done = steps::order(p, word);
     let answer = done.answer;
     let post = done.post;
-    let frame = done.frame;
-    if frame.kind != 0 {
-        frame.write(buffer);
+    let sent = done.frame;
+    if sent.kind != 0 {
+        sent.write(buffer);
     }
     Ordered {
         answer: answer,
@@ -110,9 +110,9 @@ pub fn hear(p: Post, bytes: &[u8], buffer: &mut [u8]) -> Heard
     let done = steps::hear(p, heard);
     let answer = done.answer;
     let post = done.post;
-    let frame = done.frame;
-    if frame.kind != 0 {
-        frame.write(buffer);
+    let passed_on = done.frame;
+    if passed_on.kind != 0 {
+        passed_on.write(buffer);
     }
     Heard {
         answer: answer,

@@ -165,9 +165,9 @@ pub(crate) fn pass(p: Post, f: Frame, last: Serial) -> Heard
     ensures { λ r. ⌜ (last .0 ≡ getD (p .last) (f .lane) 0 → r ≡ hearOther p f) ⌝ }
 {
     let entries = f.entries;
-    let mut next = p;
-    post::raise_all(&mut next.table, entries);
-    let done = deliver::deliver(next);
+    let mut raised = p;
+    post::raise_all(&mut raised.table, entries);
+    let done = deliver::deliver(raised);
     let answer = other(f, last, done.count);
     let post = done.post;
     let none = Frame::none();

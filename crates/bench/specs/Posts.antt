@@ -4,7 +4,6 @@ use mathlib.Core.List.{List, [], _∷_, map}
 use lib.ListN.{getD, take, replicate}
 use Rattle.post.specs.declared.Post.{Post}
 use Rattle.post.specs.Record.{freshPost, withClock}
-use Rattle.single.specs.declared.Ordered.{Ordered}
 use Rattle.single.specs.declared.Heard.{Heard}
 use Rattle.single.specs.Single.{orderSingly, orderBuffer, hearSingly, hearBuffer}
 

@@ -1,7 +1,7 @@
 -- The ways through `join` and `deliver`. Assumes nothing.
-use mathlib.Core.Path.{_≡_, refl, sym, ap, _∙_}
+use mathlib.Core.Path.{_≡_, sym, ap, _∙_}
 use mathlib.Core.List.{List, map}
-use mathlib.Core.Bool.{Bool, true, false, cond}
+use mathlib.Core.Bool.{Bool, true, false}
 use Prim.Native.Nat.{ℕ, _+_, _%_, _≤_, min}
 use native.Mathlib.Omega.{arith}
 use lib.ListN.{length, take, replicate, length-take, length-map}
@@ -13,7 +13,7 @@ use Rattle.deliver.specs.declared.NewLog.{NewLog}
 use Rattle.deliver.specs.declared.Least.{Least}
 use Rattle.deliver.specs.Delivery.{sort, dueBelow, duePlaces, dueLog, delivered}
 use Rattle.deliver.specs.Loops.{leastBelow, marksBelow, Gathered, gathered, appendedBelow}
-use Rattle.deliver.proofs.Gathering.{Sorts, gatheredOf, sorts, appended-is}
+use Rattle.deliver.proofs.Gathering.{gatheredOf, sorts, appended-is}
 
 pub join-is : (p : Post) (old : ℕ) (marks : List ℕ) (least : Least) (keys log : List ℕ) (n t : ℕ) → old ≡ min (p .logged) 128
     → marks ≡ marksBelow (p .log) old → least ≡ leastBelow (p .sources) (p .last) (p .table) 8

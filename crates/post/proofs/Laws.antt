@@ -1,10 +1,8 @@
 -- Laws that the proofs of functions cite. Assumes nothing.
 use mathlib.Core.Path.{_≡_}
-use mathlib.Core.Bool.{cond, _&&_}
 use mathlib.Core.List.{List}
 use Prim.Native.Nat.{ℕ, _+_, max}
 use native.Mathlib.Numerals.{add-one}
-use lib.Dec.{ltb, leb}
 use lib.ListN.{getD}
 use Rattle.frame.specs.Layout.{noEntry}
 use Rattle.frame.specs.declared.Entry.{Entry}

@@ -1,12 +1,11 @@
 // One post by value: its record, and the parts of a step that work on one of its arrays.
 // The contracts cite specs/Record.antt, specs/Newest.antt and specs/Taking.antt.
 use frame::Entry;
-use frame::Frame;
 use frame::Serial;
 use frame::Stamp;
 ghost use mathlib.Core.Path.{_≡_};
 ghost use mathlib.Core.Bool.{cond};
-ghost use Prim.Native.Nat.{ℕ, _≤_, _<_};
+ghost use Prim.Native.Nat.{_<_};
 ghost use Rattle.frame.specs.declared.Entry.{Entry};
 ghost use Rattle.post.specs.Record.{freshPost};
 ghost use Rattle.post.specs.Newest.{raised, raisedBelow, newer, newest, newestEntries};

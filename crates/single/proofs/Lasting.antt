@@ -1,19 +1,19 @@
 -- A post that starts fresh is never refused by 12: its record stays valid after every step. Assumes nothing.
-use mathlib.Core.Path.{_≡_, refl, sym, _∙_}
+use mathlib.Core.Path.{_≡_, refl}
 use mathlib.Core.Bool.{Bool, true, false, cond}
 use mathlib.Core.List.{List, [], _∷_}
-use Prim.Native.Nat.{ℕ, zero, suc, _+_, _*_, _<_}
+use Prim.Native.Nat.{ℕ, zero, suc, _<_}
 use native.Mathlib.Omega.{arith}
 use lib.Dec.{eqb}
 use borrow.Author.Tests.{eqb-true}
 use Rattle.frame.specs.Layout.{AreBytes, Fits, frameOf, entryOf}
-use Rattle.frame.specs.Refusals.{badLength, readRefusal, frameRefusal}
+use Rattle.frame.specs.Refusals.{badLength, readRefusal}
 use Rattle.frame.proofs.Laws.{passed, readable}
 use Rattle.post.specs.declared.Post.{Post}
 use Rattle.post.specs.Record.{freshPost}
 use Rattle.judge.specs.Judgement.{badRecord}
 use Rattle.steps.specs.Refusals.{notInYard, orderRefusal, hearRefusal}
-use Rattle.steps.specs.Steps.{orderSent, orderStep, hearStep}
+use Rattle.steps.specs.Steps.{orderSent, orderStep}
 use Rattle.laws.proofs.Valid.{Shaped}
 use Rattle.laws.proofs.ValidFresh.{fresh-shaped}
 use Rattle.laws.proofs.StepLaws.{order-judged, hear-judged}

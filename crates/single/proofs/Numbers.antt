@@ -15,7 +15,7 @@ use Rattle.post.specs.Record.{lastOf}
 use Rattle.judge.specs.Judgement.{badRecord}
 use Rattle.steps.specs.Answers.{orderNumber, hearNumber, beaconNumber}
 use Rattle.steps.specs.Refusals.{isOrder, isNext, hearRefusal}
-use Rattle.steps.specs.Steps.{orderSent, hearTaken, otherAnswer, hearOther, hearStep}
+use Rattle.steps.specs.Steps.{orderSent, hearTaken, hearOther, hearStep}
 use Rattle.single.specs.Single.{orderRefusalSingly, orderSingly, hearRefusalSingly, hearSingly, beaconRefusalSingly, beaconSingly}
 
 -- an order that is sent answers 0

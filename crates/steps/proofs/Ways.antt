@@ -1,12 +1,10 @@
 -- The ways through the steps. Assumes nothing.
 use mathlib.Core.Path.{_≡_, refl, sym, ap, _∙_}
-use mathlib.Core.Bool.{Bool, true, false, cond, not, _&&_, _||_}
+use mathlib.Core.Bool.{Bool, true, false, cond}
 use mathlib.Core.List.{List}
-use Prim.Native.Nat.{ℕ, _+_, _<_, _≤_, max, min}
-use native.Mathlib.Omega.{arith}
-use borrow.Author.Tests.{eq-eqb, ne-eqb, leb-true, leb-false, not-false}
-use lib.Dec.{eqb, leb, ltb}
-use lib.ListN.{getD, set}
+use Prim.Native.Nat.{ℕ, _+_, _<_, max}
+use borrow.Author.Tests.{eq-eqb, ne-eqb, leb-false}
+use lib.ListN.{set}
 use Rattle.frame.specs.declared.Entry.{Entry}
 use Rattle.frame.specs.declared.Frame.{Frame}
 use Rattle.frame.specs.declared.Serial.{Serial}
@@ -20,7 +18,7 @@ use Rattle.post.specs.Newest.{raisedBelow, newestEntries}
 use Rattle.post.specs.Taking.{kept, ticked, ordered, raisedPost, taken}
 use Rattle.deliver.specs.declared.Delivered.{Delivered}
 use Rattle.deliver.specs.Delivery.{delivered, stampAt}
-use Rattle.steps.specs.Refusals.{orderRefusal, orderRefusalBy, noSource, allSent, clockSpent, isNext, isOrder, clockPasses, hearRefusal, hearRefusalBy}
+use Rattle.steps.specs.Refusals.{orderRefusal, orderRefusalBy, isNext, hearRefusal, hearRefusalBy}
 use Rattle.steps.specs.Steps.{orderSent, orderStep, hearTaken, otherAnswer, hearOther, hearStep, beaconStep}
 use Rattle.steps.proofs.Passed.{order-passed, hear-passed}
 use Rattle.steps.specs.declared.OrderAnswer as orders

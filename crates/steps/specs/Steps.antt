@@ -1,6 +1,6 @@
 -- The steps of a post: document 01, "The four steps". Each is total. Assumes nothing.
 use Prim.Native.Nat.{ℕ}
-use mathlib.Core.Bool.{Bool, cond}
+use mathlib.Core.Bool.{cond}
 use lib.Dec.{leb, eqb}
 use Rattle.frame.specs.ReadWrite.{noFrame}
 use Rattle.frame.specs.declared.Frame.{Frame}

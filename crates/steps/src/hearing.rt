@@ -8,11 +8,11 @@ use frame::Stamp;
 use post::Post;
 ghost use mathlib.Core.Path.{_≡_};
 ghost use mathlib.Core.Bool.{true, not, _&&_};
-ghost use Prim.Native.Nat.{ℕ, _+_, _<_, max, min};
+ghost use Prim.Native.Nat.{_+_, _<_, max};
 ghost use lib.ListN.{getD};
 ghost use Rattle.cells.specs.Sets.{hasLane};
 ghost use Rattle.frame.specs.Layout.{noEntry};
-ghost use Rattle.post.specs.Taking.{taken, raisedPost};
+ghost use Rattle.post.specs.Taking.{taken};
 ghost use Rattle.steps.specs.Refusals.{isNext, clockPasses, hasStamp, strangeEntries, strange, notAbove, beyondOwn, hearRefusalBy};
 ghost use Rattle.steps.specs.Steps.{hearTaken, otherAnswer, hearOther};
 

@@ -1,6 +1,6 @@
 use Rattle.frame.specs.Lanes.{anyBelow}
 use Rattle.frame.proofs.Laws.{any-more}
-use Prim.Native.Nat.{ℕ, _≤_, _-_}
+use Prim.Native.Nat.{_≤_, _-_}
 use Rattle.judge.specs.Parts.{badLaneIn}
 use mathlib.Core.Path.{_≡_, _∙_}
 use native.Mathlib.Omega.{arith}

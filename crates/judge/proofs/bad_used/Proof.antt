@@ -1,6 +1,5 @@
 use Rattle.frame.specs.Lanes.{anyBelow}
-use Rattle.frame.proofs.Laws.{any-more}
-use Prim.Native.Nat.{ℕ, _≤_, _-_}
+use Prim.Native.Nat.{_≤_, _-_}
 use Rattle.judge.specs.Parts.{badUsedIn}
 use Rattle.deliver.specs.Loops.{marksBelow}
 use Rattle.deliver.proofs.Turns.{marks-more}

@@ -38,7 +38,7 @@ impl History {
             sources,
             dests,
             posts,
-            ..made_up::empty()
+            ..Post::EMPTY
         };
         let lanes = (0..8).filter(|lane| posts >> lane & 1 == 1);
         let start = match random.one_in(6) {

@@ -2,28 +2,10 @@
 
 use crate::random::Random;
 use drift_reference::frame::{Serial, Stamp, LANES};
-use drift_reference::post::{Post, ORDERS, TABLE_LENGTH};
+use drift_reference::post::{Post, ORDERS};
 
 /// Stamps of one record come from one of these ranges, so that many are equal.
 const STAMP_RANGES: [(u16, u16); 4] = [(1, 3), (1, 12), (65_530, 65_535), (1, 65_535)];
-
-/// The record of all zeros.
-pub fn empty() -> Post {
-    Post {
-        lane: 0,
-        posts: 0,
-        sources: 0,
-        dests: 0,
-        clock: Stamp(0),
-        serial: Serial(0),
-        last: [0; LANES],
-        table: [0; TABLE_LENGTH],
-        stamps: [0; ORDERS],
-        words: [0; ORDERS],
-        log: [0; ORDERS],
-        logged: 0,
-    }
-}
 
 /// A set of at least one lane: often one lane or all of them.
 pub fn some_posts(random: &mut Random) -> u8 {
@@ -62,7 +44,7 @@ pub fn record(random: &mut Random) -> Post {
         posts,
         sources: subset(random, posts),
         dests: subset(random, posts),
-        ..empty()
+        ..Post::EMPTY
     };
     if random.one_in(2) {
         post.dests |= 1 << lane;

@@ -36,6 +36,22 @@ pub struct Post {
 }
 
 impl Post {
+    /// The record of all zeros.
+    pub const EMPTY: Post = Post {
+        lane: 0,
+        posts: 0,
+        sources: 0,
+        dests: 0,
+        clock: Stamp(0),
+        serial: Serial(0),
+        last: [0; LANES],
+        table: [0; TABLE_LENGTH],
+        stamps: [0; ORDERS],
+        words: [0; ORDERS],
+        log: [0; ORDERS],
+        logged: 0,
+    };
+
     /// A post before its first step, or refusal 12 or 21.
     pub fn fresh(lane: u8, posts: u8, sources: u8, dests: u8) -> Result<Post, u8> {
         let post = Post {
@@ -43,14 +59,7 @@ impl Post {
             posts,
             sources,
             dests,
-            clock: Stamp(0),
-            serial: Serial(0),
-            last: [0; LANES],
-            table: [0; TABLE_LENGTH],
-            stamps: [0; ORDERS],
-            words: [0; ORDERS],
-            log: [0; ORDERS],
-            logged: 0,
+            ..Post::EMPTY
         };
         post.judge()?;
         post.judge_membership()?;

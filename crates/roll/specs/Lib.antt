@@ -1,0 +1,2 @@
+pub mod RollCall
+pub mod Runs

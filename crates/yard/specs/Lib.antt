@@ -1,0 +1,3 @@
+pub mod Yards
+pub mod Singles
+pub mod Worlds

@@ -1,0 +1,57 @@
+-- The yard, and a fresh one: document 01, "Posts, stamps, serials" and "The words of demand 3". Assumes nothing.
+use Prim.Native.Nat.{ℕ}
+use mathlib.Core.Bool.{cond}
+use mathlib.Core.List.{[], map}
+use lib.Dec.{eqb}
+use lib.ListN.{getD, replicate}
+use Rattle.frame.specs.Lanes.{lanes}
+use Rattle.post.specs.declared.Post.{Post}
+use Rattle.post.specs.Record.{freshPost}
+use Rattle.judge.specs.Judgement.{badRecord}
+use Rattle.yard.specs.declared.Yard.{Yard}
+use Rattle.yard.specs.declared.FreshYard.{FreshYard}
+
+-- what a list of posts gives past its end
+abbrev pub noPost : Post
+noPost = record {
+  lane = 0;
+  posts = 0;
+  sources = 0;
+  dests = 0;
+  clock = record { 0 = 0 };
+  serial = record { 0 = 0 };
+  last = [];
+  table = [];
+  stamps = [];
+  words = [];
+  log = [];
+  logged = 0;
+}
+
+-- the record of a lane; a lane without a post has one too, which is not in the yard (21)
+abbrev pub postAt : Yard → ℕ → Post
+postAt y lane = getD (y .posts) lane noPost
+
+-- "A fresh yard is any yard before its first step: each post fresh, no frame on the air yet, no beacon sent."
+unfoldable pub freshYard : ℕ → ℕ → ℕ → Yard
+freshYard present sources dests = record {
+  present = present;
+  sources = sources;
+  posts = map (λ (lane : ℕ). freshPost lane present sources dests) lanes;
+  frames = 0;
+  beacons = 0;
+  first = replicate 128 0;
+}
+
+-- 3, "no posts"; 12, as each record would be judged: "a role at a lane without a post"
+unfoldable pub yardRefusal : ℕ → ℕ → ℕ → ℕ
+yardRefusal present sources dests =
+    cond (eqb present 0) 3
+    (cond (badRecord (freshPost 0 present sources dests)) 12
+    0)
+
+-- the fresh yard of three sets of lanes, or the refusal beside a yard without posts
+unfoldable pub yardMade : ℕ → ℕ → ℕ → FreshYard
+yardMade present sources dests =
+    cond (eqb (yardRefusal present sources dests) 0) (record { refusal = 0; yard = freshYard present sources dests })
+    (record { refusal = yardRefusal present sources dests; yard = freshYard 0 0 0 })

@@ -1,2 +1,3 @@
 pub mod RollCall
 pub mod Runs
+pub mod Logs

@@ -1,0 +1,83 @@
+-- The air after a step: a broadcast is its next frame and changes no other; without a broadcast it stays. Assumes nothing.
+use mathlib.Core.Path.{_≡_, refl, sym, ap, _∙_, fun-ext}
+use mathlib.Core.List.{List}
+use mathlib.Core.Logic.{_⊎_, inl, inr, _≢_}
+use mathlib.Core.Bool.{cond}
+use Prim.Native.Nat.{ℕ, suc, _+_, _<_, _≤_}
+use native.Mathlib.Omega.{arith}
+use native.Mathlib.Numerals.{add-one}
+use lib.Dec.{ltb, eqb}
+use lib.ListN.{length}
+use borrow.Author.Tests.{lt-ltb, le-ltb, eq-eqb, ne-eqb}
+use Rattle.frame.specs.declared.Frame as frames
+use Rattle.frame.specs.Layout.{bytesOf, frameOf}
+use Rattle.frame.specs.Refusals.{frameRefusal, badEntries, readRefusal}
+use Rattle.frame.specs.Lanes.{anyBelow}
+use Rattle.frame.specs.ReadWrite.{noFrame}
+use Rattle.frame.proofs.RoundTrip.{bytes-length, frame-bytes}
+use Rattle.frame.proofs.Theorems.{judged-alike}
+use Rattle.air.specs.Air.{stretchAt, placeRefusal, airWith}
+use Rattle.air.proofs.Laws.{write-good, has-place, kept-air}
+use Rattle.air.proofs.Stretches.{placed-same, others-stay}
+use Rattle.yard.specs.Singles.{framesAfter, frameAt}
+use Rattle.laws.proofs.TestLaws.{same-or-not, below-or-not}
+use Rattle.laws.proofs.Broadcasts.{Sendable}
+use Rattle.model.proofs.Model.{Frame}
+use Rattle.model.proofs.Functions.{upd, upd-same, upd-other}
+use Rattle.agreement.proofs.Views.{frameView, noFrameYet, airView}
+
+-- ---- no broadcast
+
+-- no frame is refused by 7
+none-refused : frameRefusal noFrame ≡ 7
+unfolding frameRefusal badEntries anyBelow
+none-refused = refl
+
+none-placed : (air : List ℕ) (k : ℕ) → placeRefusal air k noFrame ≢ 0
+none-placed air k z = let p = has-place air k noFrame z in omega (arith, p .1, none-refused)
+
+-- so the air stays, and no frame is counted
+pub silent-air : (air : List ℕ) (k : ℕ) → airWith air k noFrame ≡ air
+silent-air air k = kept-air air k noFrame (none-placed air k)
+
+pub silent-frames : (air : List ℕ) (k : ℕ) → framesAfter air k noFrame ≡ k
+unfolding framesAfter
+silent-frames air k = rw (ne-eqb (placeRefusal air k noFrame) 0 (none-placed air k))
+
+-- ---- a broadcast, where there is room
+
+module _ (air : List ℕ) (k : ℕ) (f : frames.Frame) (whole : length air ≡ 65536) (room : k < 2048) (s : Sendable f) where
+  pub spoken-frames : framesAfter air k f ≡ k + 1
+  unfolding framesAfter
+  spoken-frames = rw (write-good air k f whole room (s .good) .0)
+
+  spoken-stretch : stretchAt (airWith air k f) k ≡ bytesOf f
+  spoken-stretch = rw (write-good air k f whole room (s .good) .1) (placed-same air k (bytesOf f) whole room (bytes-length f))
+
+  -- frame k is the broadcast
+  pub spoken-frame : frameAt (airWith air k f) k ≡ f
+  spoken-frame = ap frameOf spoken-stretch ∙ frame-bytes f (s .fits)
+
+  -- and reading does not refuse it
+  pub spoken-read : readRefusal (stretchAt (airWith air k f) k) ≡ 0
+  spoken-read = ap readRefusal spoken-stretch ∙ judged-alike f (s .fits) ∙ s .good
+
+  -- the frames before it stay
+  pub spoken-before : (j : ℕ) → j < k → stretchAt (airWith air k f) j ≡ stretchAt air j
+  spoken-before j l = others-stay air k j f (omega arith) (omega arith)
+
+  -- all of it, as the model sees it
+  pub air-spoken : airView (airWith air k f) (k + 1) ≡ upd (airView air k) k (frameView f)
+  unfolding airView
+  air-spoken = fun-ext (λ j. go j (same-or-not j k) (below-or-not j k))
+    where
+      go : (j : ℕ) → (j ≡ k) ⊎ (j ≢ k) → (j < k) ⊎ (k ≤ j)
+          → cond (ltb j (k + 1)) (frameView (frameAt (airWith air k f) j)) noFrameYet
+          ≡ upd (λ (i : ℕ). cond (ltb i k) (frameView (frameAt air i)) noFrameYet) k (frameView f) j
+      go j (inl e) l = rw (e, upd-same, lt-ltb k (k + 1) (omega arith)) (ap frameView spoken-frame)
+      go j (inr n) (inl l) =
+          rw (upd-other (λ (i : ℕ). cond (ltb i k) (frameView (frameAt air i)) noFrameYet) k (frameView f) j n, lt-ltb j (k + 1) (omega arith), lt-ltb j k l)
+          (ap (λ (x : List ℕ). frameView (frameOf x)) (spoken-before j l))
+      go j (inr n) (inr l) =
+          rw (upd-other (λ (i : ℕ). cond (ltb i k) (frameView (frameAt air i)) noFrameYet) k (frameView f) j n, le-ltb j (k + 1) (omega arith), le-ltb j k l)
+          refl

@@ -1,0 +1,81 @@
+-- A beacon in a yard, by each way that it can end: what it answers, and the yard and the air that it leaves. Assumes nothing.
+use mathlib.Core.Path.{_≡_, refl, ap}
+use mathlib.Core.Logic.{_≢_}
+use mathlib.Core.Bool.{true, false, cond, not}
+use Prim.Native.Nat.{ℕ, _+_, _<_, _≤_}
+use native.Mathlib.Omega.{arith}
+use lib.Dec.{ltb, leb, eqb}
+use lib.ListN.{length}
+use borrow.Author.Tests.{lt-ltb, le-ltb, le-leb, lt-leb, eq-eqb, ne-eqb}
+use Rattle.air.specs.Air.{airWith}
+use Rattle.post.specs.Newest.{beaconFrame}
+use Rattle.steps.specs.Refusals.{notInYard}
+use Rattle.steps.specs.Steps.{beaconStep}
+use Rattle.steps.specs.declared.BeaconAnswer as beaconing
+use Rattle.yard.specs.Yards.{postAt}
+use Rattle.yard.specs.Singles.{postBeacons, postBeaconsAir, withBeacons, yardBeacons, yardBeaconsAir}
+use Rattle.yard.specs.Worlds.{World, beacon, single}
+use Rattle.laws.proofs.Broadcasts.{Sendable}
+use Rattle.agreement.proofs.AirViews.{spoken-frames}
+
+-- a beacon that leaves the world as it was, answering its refusal
+pub record BeaconStays (w : World) (lane number : ℕ) : Type 0 where
+  pub answer : yardBeacons (w .air) (w .yard) lane .answer ≡ beaconing.the-variants.Refused number
+  pub world : single w (beacon lane) ≡ w
+
+-- 4
+pub beacon-4 : (w : World) (lane : ℕ) → 8 ≤ lane → BeaconStays w lane 4
+unfolding single yardBeacons yardBeaconsAir
+beacon-4 w lane l = record { answer = rw (le-ltb lane 8 l); world = rw (le-ltb lane 8 l) }
+
+-- 13
+pub beacon-13 : (w : World) (lane : ℕ) → lane < 8 → length (w .air) ≢ 65536 → BeaconStays w lane 13
+unfolding single yardBeacons yardBeaconsAir postBeacons postBeaconsAir
+beacon-13 w lane l n = record {
+  answer = rw (lt-ltb lane 8 l, ne-eqb (length (w .air)) 65536 n);
+  world = rw (lt-ltb lane 8 l, ne-eqb (length (w .air)) 65536 n);
+}
+
+-- 21
+pub beacon-21 : (w : World) (lane : ℕ) → lane < 8 → length (w .air) ≡ 65536
+    → notInYard (postAt (w .yard) lane .posts) (postAt (w .yard) lane .lane) ≡ true
+    → BeaconStays w lane 21
+unfolding single yardBeacons yardBeaconsAir postBeacons postBeaconsAir
+beacon-21 w lane l e i = record {
+  answer = rw (lt-ltb lane 8 l, eq-eqb (length (w .air)) 65536 e, i);
+  world = rw (lt-ltb lane 8 l, eq-eqb (length (w .air)) 65536 e, i);
+}
+
+-- 27
+pub beacon-27 : (w : World) (lane : ℕ) → lane < 8 → length (w .air) ≡ 65536
+    → notInYard (postAt (w .yard) lane .posts) (postAt (w .yard) lane .lane) ≡ false → 1024 ≤ w .yard .beacons
+    → BeaconStays w lane 27
+unfolding single yardBeacons yardBeaconsAir postBeacons postBeaconsAir
+beacon-27 w lane l e i h = record {
+  answer = rw (lt-ltb lane 8 l, eq-eqb (length (w .air)) 65536 e, i, le-leb 1024 (w .yard .beacons) h);
+  world = rw (lt-ltb lane 8 l, eq-eqb (length (w .air)) 65536 e, i, le-leb 1024 (w .yard .beacons) h);
+}
+
+-- a beacon that is sent
+pub record BeaconDone (w : World) (lane : ℕ) : Type 0 where
+  pub answer : yardBeacons (w .air) (w .yard) lane .answer ≡ beaconing.the-variants.Sent
+  pub world : single w (beacon lane) ≡ record {
+    yard = withBeacons (w .yard) (w .yard .frames + 1) (w .yard .beacons + 1);
+    air = airWith (w .air) (w .yard .frames) (beaconFrame (postAt (w .yard) lane));
+  }
+
+pub beacon-done : (w : World) (lane : ℕ) → lane < 8 → length (w .air) ≡ 65536
+    → notInYard (postAt (w .yard) lane .posts) (postAt (w .yard) lane .lane) ≡ false → w .yard .beacons < 1024
+    → w .yard .frames < 2048 → Sendable (beaconFrame (postAt (w .yard) lane))
+    → BeaconDone w lane
+unfolding single yardBeacons yardBeaconsAir postBeacons postBeaconsAir beaconStep
+beacon-done w lane l e i h r s = record {
+  answer = rw (lt-ltb lane 8 l, eq-eqb (length (w .air)) 65536 e, i, lt-leb 1024 (w .yard .beacons) h);
+  world = rw (
+    lt-ltb lane 8 l,
+    eq-eqb (length (w .air)) 65536 e,
+    i,
+    lt-leb 1024 (w .yard .beacons) h,
+    spoken-frames (w .air) (w .yard .frames) (beaconFrame (postAt (w .yard) lane)) e r s,
+  );
+}

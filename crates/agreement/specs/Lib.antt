@@ -1,0 +1,2 @@
+pub mod YardRefusals
+pub mod Demand3

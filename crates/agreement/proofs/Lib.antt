@@ -1,6 +1,12 @@
 pub mod Views
+pub mod ArrayViews
+pub mod PostViews
+pub mod FrameViews
 pub mod AirViews
 pub mod Sound
 pub mod OrderWays
 pub mod HearWays
 pub mod BeaconWays
+pub mod YardNumbers
+pub mod OrderSimulation
+pub mod HearSimulation

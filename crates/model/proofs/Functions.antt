@@ -1,19 +1,14 @@
--- Functions changed at one place, and their laws.
-use mathlib.Core.Path.{_≡_, refl, sym, ap, _∙_}
+-- Functions changed at one place, and sums of a function below a number. Assumes nothing.
+use mathlib.Core.Path.{_≡_, refl, sym}
 use mathlib.Core.Logic.{_⊎_, inl, inr, _≢_}
 use mathlib.Core.Bool.{Bool, true, false, cond, _&&_}
 use Prim.Native.Nat.{ℕ, zero, suc, _+_, _*_, _≤_, _<_}
 use native.Mathlib.Omega.{arith}
-use lib.Dec.{ltb, leb, eqb}
-use borrow.Author.Tests.{eqb-true, eqb-false, eq-eqb, ne-eqb, leb-true, leb-false}
+use lib.Dec.{leb, eqb}
+use borrow.Author.Tests.{eq-eqb, ne-eqb, leb-true, leb-false}
+use Rattle.laws.proofs.TestLaws.{same-or-not}
 
-pub same-or-not : (a b : ℕ) → (a ≡ b) ⊎ (a ≢ b)
-same-or-not a b = go (eqb a b) refl
-  where
-    go : (t : Bool) → eqb a b ≡ t → (a ≡ b) ⊎ (a ≢ b)
-    go true e = inl (eqb-true a b e)
-    go false e = inr (eqb-false a b e)
-
+-- a number is at most another or not
 pub le-or-not : (a b : ℕ) → (a ≤ b) ⊎ (b < a)
 le-or-not a b = go (leb a b) refl
   where
@@ -22,17 +17,22 @@ le-or-not a b = go (leb a b) refl
     go false e = inr (leb-false a b e)
 
 module _ {A : Type 0} where
+  -- ---- a function of one number, changed at i to a
+
   unfoldable pub upd : (ℕ → A) → ℕ → A → ℕ → A
   upd f i a j = cond (eqb j i) a (f j)
 
+  -- there it is a
   pub upd-same : (f : ℕ → A) (i : ℕ) (a : A) → upd f i a i ≡ a
   unfolding upd
   upd-same f i a = rw (eq-eqb i i refl) refl
 
+  -- elsewhere it is as before
   pub upd-other : (f : ℕ → A) (i : ℕ) (a : A) (j : ℕ) → j ≢ i → upd f i a j ≡ f j
   unfolding upd
   upd-other f i a j n = rw (ne-eqb j i n) refl
 
+  -- what holds of a, and of the values elsewhere, holds of each value
   pub upd-case : (P : A → Type 0) (f : ℕ → A) (i : ℕ) (a : A) (j : ℕ) → (j ≡ i → P a) → (j ≢ i → P (f j)) → P (upd f i a j)
   upd-case P f i a j y n = go (same-or-not j i)
     where
@@ -40,13 +40,17 @@ module _ {A : Type 0} where
       go (inl e) = rw (e, upd-same) (y e)
       go (inr h) = rw (upd-other f i a j h) (n h)
 
+  -- ---- a function of two numbers, changed at (i, n) to a
+
   unfoldable pub upd2 : (ℕ → ℕ → A) → ℕ → ℕ → A → ℕ → ℕ → A
   upd2 f i n a j m = cond (eqb j i && eqb m n) a (f j m)
 
+  -- there it is a
   pub upd2-same : (f : ℕ → ℕ → A) (i n : ℕ) (a : A) → upd2 f i n a i n ≡ a
   unfolding upd2
   upd2-same f i n a = rw (eq-eqb i i refl, eq-eqb n n refl) refl
 
+  -- elsewhere it is as before
   pub upd2-keep : (f : ℕ → ℕ → A) (i n : ℕ) (a : A) (j m : ℕ) → (j ≡ i → m ≢ n) → upd2 f i n a j m ≡ f j m
   unfolding upd2
   upd2-keep f i n a j m h = go (same-or-not j i)
@@ -63,6 +67,7 @@ module _ {A : Type 0} where
       go (inl e) = rw (ne-eqb m n (h e)) (nosnd (eqb j i))
       go (inr q) = nofst (eqb j i) (ne-eqb j i q)
 
+  -- what holds of a, and of the values elsewhere, holds of each value
   pub upd2-case : (P : A → Type 0) (f : ℕ → ℕ → A) (i n : ℕ) (a : A) (j m : ℕ)
       → (j ≡ i → m ≡ n → P a) → ((j ≡ i → m ≢ n) → P (f j m)) → P (upd2 f i n a j m)
   upd2-case P f i n a j m y k = go (same-or-not j i) (same-or-not m n)
@@ -72,19 +77,21 @@ module _ {A : Type 0} where
       go (inl e) (inr g) = rw (upd2-keep f i n a j m (λ x. g)) (k (λ x. g))
       go (inr e) g = rw (upd2-keep f i n a j m (λ x. absurd (e x))) (k (λ x. absurd (e x)))
 
--- sums
+-- ---- the sum of f below k
 
 unfoldable pub sumBelow : ℕ → (ℕ → ℕ) → ℕ
 sumBelow zero f = 0
 sumBelow (suc k) f = f k + sumBelow k f
 
+-- equal values, equal sums
 pub sum-same : (f g : ℕ → ℕ) (k : ℕ) → ((i : ℕ) → i < k → g i ≡ f i) → sumBelow k g ≡ sumBelow k f
 unfolding sumBelow
 sum-same f g zero h = refl
 sum-same f g (suc k) h = rw (h k (omega arith), sum-same f g k (λ i l. h i (omega arith))) refl
 
--- one more at one place
-pub sum-more : (f g : ℕ → ℕ) (k p : ℕ) → p < k → ((i : ℕ) → i ≢ p → g i ≡ f i) → g p ≡ suc (f p) → sumBelow k g ≡ suc (sumBelow k f)
+-- one more at one place, one more in all
+pub sum-more : (f g : ℕ → ℕ) (k p : ℕ) → p < k → ((i : ℕ) → i ≢ p → g i ≡ f i) → g p ≡ suc (f p)
+    → sumBelow k g ≡ suc (sumBelow k f)
 unfolding sumBelow
 sum-more f g zero p l h e = absurd (omega arith)
 sum-more f g (suc k) p l h e = go (same-or-not p k) (λ m. sum-more f g k p m h e)
@@ -93,6 +100,7 @@ sum-more f g (suc k) p l h e = go (same-or-not p k) (λ m. sum-more f g k p m h 
     go (inl q) ih = omega (arith, rw q at e, sum-same f g k (λ i m. h i (omega arith)))
     go (inr q) ih = omega (arith, ih (omega arith), h k (λ z. q (sym z)))
 
+-- a bound of each value bounds the sum
 pub sum-bound : (f : ℕ → ℕ) (k b : ℕ) → ((i : ℕ) → f i ≤ b) → sumBelow k f ≤ k * b
 unfolding sumBelow
 sum-bound f zero b h = omega arith

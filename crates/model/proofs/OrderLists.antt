@@ -1,0 +1,151 @@
+-- Lists of orders by stamp and then lane: what `inOrder` makes, and when one such list begins another or is it. Assumes nothing.
+use mathlib.Core.Path.{_≡_, refl, sym, ap, _∙_}
+use mathlib.Core.List.{List, [], _∷_, _++_, append-nil}
+use mathlib.Core.Logic.{_⊎_, inl, inr, _≢_}
+use mathlib.Core.Bool.{Bool, true, false, cond}
+use Prim.Native.Nat.{_≤_, _<_}
+use native.Mathlib.Omega.{arith}
+use lib.Dec.{ltb}
+use borrow.Author.Tests.{ltb-true, ltb-false}
+use Rattle.laws.proofs.ListLaws.{Mem, mem-right, mem-append, Begins}
+use Rattle.roll.specs.Runs.{Order}
+use Rattle.roll.specs.Logs.{rank, insertOrder, inOrder}
+
+-- strictly rising keys
+abbrev pub Rising : List Order → Type 0
+Rising [] = Unit {0}
+Rising (x ∷ l) = ((y : Order) → Mem y l → rank x < rank y) × Rising l
+
+-- no two keys alike
+abbrev pub Apart : List Order → Type 0
+Apart [] = Unit {0}
+Apart (x ∷ l) = ((y : Order) → Mem y l → rank x ≢ rank y) × Apart l
+
+pub mem-insert : (z x : Order) (l : List Order) → (z ≡ x) ⊎ Mem z l → Mem z (insertOrder x l)
+unfolding insertOrder
+mem-insert z x [] h = h
+mem-insert z x (y ∷ l) h = go (ltb (rank x) (rank y)) h (mem-insert z x l)
+  where
+    go : (b : Bool) → (z ≡ x) ⊎ Mem z (y ∷ l) → ((z ≡ x) ⊎ Mem z l → Mem z (insertOrder x l)) → Mem z (cond b (x ∷ y ∷ l) (y ∷ insertOrder x l))
+    go true k ih = k
+    go false (inl e) ih = inr (ih (inl e))
+    go false (inr (inl e)) ih = inl e
+    go false (inr (inr m)) ih = inr (ih (inr m))
+
+pub insert-mem : (z x : Order) (l : List Order) → Mem z (insertOrder x l) → (z ≡ x) ⊎ Mem z l
+unfolding insertOrder
+insert-mem z x [] h = h
+insert-mem z x (y ∷ l) h = go (ltb (rank x) (rank y)) h (insert-mem z x l)
+  where
+    up : (z ≡ x) ⊎ Mem z l → (z ≡ x) ⊎ Mem z (y ∷ l)
+    up (inl e) = inl e
+    up (inr m) = inr (inr m)
+
+    go : (b : Bool) → Mem z (cond b (x ∷ y ∷ l) (y ∷ insertOrder x l)) → (Mem z (insertOrder x l) → (z ≡ x) ⊎ Mem z l) → (z ≡ x) ⊎ Mem z (y ∷ l)
+    go true k ih = k
+    go false (inl e) ih = inr (inl e)
+    go false (inr m) ih = up (ih m)
+
+pub insert-rises : (x : Order) (l : List Order) → Rising l → ((y : Order) → Mem y l → rank x ≢ rank y) → Rising (insertOrder x l)
+unfolding insertOrder
+insert-rises x [] r n = (λ y m. absurd m, tt)
+insert-rises x (y ∷ l) r n = go (ltb (rank x) (rank y)) refl (insert-rises x l (r .1) (λ z m. n z (inr m)))
+  where
+    above : (z : Order) → rank x < rank y → Mem z (y ∷ l) → rank x < rank z
+    above z h (inl e) = rw e h
+    above z h (inr m) = omega (arith, r .0 z m)
+
+    below : (z : Order) → rank y ≤ rank x → (z ≡ x) ⊎ Mem z l → rank y < rank z
+    below z h (inl e) = rw e (omega (arith, n y (inl refl)))
+    below z h (inr m) = r .0 z m
+
+    go : (b : Bool) → ltb (rank x) (rank y) ≡ b → Rising (insertOrder x l) → Rising (cond b (x ∷ y ∷ l) (y ∷ insertOrder x l))
+    go true e ih = (λ z m. above z (ltb-true (rank x) (rank y) e) m, r)
+    go false e ih = (λ z m. below z (ltb-false (rank x) (rank y) e) (insert-mem z x l m), ih)
+
+pub mem-in-order : (z : Order) (l : List Order) → Mem z l → Mem z (inOrder l)
+unfolding inOrder
+mem-in-order z [] h = h
+mem-in-order z (x ∷ l) (inl e) = mem-insert z x (inOrder l) (inl e)
+mem-in-order z (x ∷ l) (inr m) = mem-insert z x (inOrder l) (inr (mem-in-order z l m))
+
+pub in-order-mem : (z : Order) (l : List Order) → Mem z (inOrder l) → Mem z l
+unfolding inOrder
+in-order-mem z [] h = h
+in-order-mem z (x ∷ l) h = go (insert-mem z x (inOrder l) h) (in-order-mem z l)
+  where
+    go : (z ≡ x) ⊎ Mem z (inOrder l) → (Mem z (inOrder l) → Mem z l) → (z ≡ x) ⊎ Mem z l
+    go (inl e) ih = inl e
+    go (inr m) ih = inr (ih m)
+
+pub in-order-rises : (l : List Order) → Apart l → Rising (inOrder l)
+unfolding inOrder
+in-order-rises [] a = tt
+in-order-rises (x ∷ l) a = insert-rises x (inOrder l) (in-order-rises l (a .1)) (λ y m. a .0 y (in-order-mem y l m))
+
+pub rising-append : (s t : List Order) → Rising s → Rising t → ((x y : Order) → Mem x s → Mem y t → rank x < rank y) → Rising (s ++ t)
+rising-append [] t r q h = q
+rising-append (x ∷ s) t r q h = (λ y m. go y (mem-append y s t m), rising-append s t (r .1) q (λ a b m n. h a b (inr m) n))
+  where
+    go : (y : Order) → Mem y s ⊎ Mem y t → rank x < rank y
+    go y (inl m) = r .0 y m
+    go y (inr m) = h x y (inl refl) m
+
+pub apart-append : (s t : List Order) → Apart s → Apart t → ((x y : Order) → Mem x s → Mem y t → rank x ≢ rank y) → Apart (s ++ t)
+apart-append [] t r q h = q
+apart-append (x ∷ s) t r q h = (λ y m. go y (mem-append y s t m), apart-append s t (r .1) q (λ a b m n. h a b (inr m) n))
+  where
+    go : (y : Order) → Mem y s ⊎ Mem y t → rank x ≢ rank y
+    go y (inl m) = r .0 y m
+    go y (inr m) = h x y (inl refl) m
+
+-- a strictly sorted list that is closed downwards in another begins it
+pub begins : (s l : List Order) → Rising s → Rising l
+    → ((x : Order) → Mem x s → Mem x l)
+    → ((x y : Order) → Mem x s → Mem y l → rank y < rank x → Mem y s)
+    → Begins s l
+begins [] l r q sub down = (l, refl)
+begins (x ∷ s) [] r q sub down = absurd (sub x (inl refl))
+begins (x ∷ s) (y ∷ l) r q sub down =
+    cons (begins s l (r .1) (q .1) (λ z m. subs z m (sub z (inr m))) (λ z w m n h. downs w n (down z w (inr m) (inr n) h)))
+  where
+    -- the heads agree: else y stands below x, so it is in x ∷ s, above x
+    not-lt : Mem y (x ∷ s) → rank x ≤ rank y
+    not-lt (inl e) = rw e (omega arith)
+    not-lt (inr m) = omega (arith, r .0 y m)
+
+    same : Mem x (y ∷ l) → x ≡ y
+    same (inl e) = e
+    same (inr m) = let h : rank y < rank x = q .0 x m in absurd (omega (arith, not-lt (down x y (inl refl) (inl refl) h)))
+
+    eq : x ≡ y
+    eq = same (sub x (inl refl))
+
+    subs : (z : Order) → Mem z s → Mem z (y ∷ l) → Mem z l
+    subs z m (inl e) = absurd (omega (arith, r .0 z m, ap rank (e ∙ sym eq)))
+    subs z m (inr n) = n
+
+    downs : (w : Order) → Mem w l → Mem w (x ∷ s) → Mem w s
+    downs w n (inl e) = absurd (omega (arith, q .0 w n, ap rank (e ∙ eq)))
+    downs w n (inr m) = m
+
+    cons : Begins s l → Begins (x ∷ s) (y ∷ l)
+    cons b = (b .0, cc (eq, b .1))
+
+pub rising-split : (s t : List Order) (x y : Order) → Rising (s ++ t) → Mem x s → Mem y t → rank x < rank y
+rising-split [] t x y r m n = absurd m
+rising-split (z ∷ s) t x y r (inl e) n = rw e (r .0 y (mem-right y s t n))
+rising-split (z ∷ s) t x y r (inr m) n = rising-split s t x y (r .1) m n
+
+-- two strictly sorted lists with the same members are one
+pub unique : (s l : List Order) → Rising s → Rising l → ((x : Order) → Mem x s → Mem x l) → ((x : Order) → Mem x l → Mem x s) → s ≡ l
+unique s l r q sub sup = go (begins s l r q sub (λ x y m n h. sup y n))
+  where
+    none : (t : List Order) → l ≡ s ++ t → s ≡ l
+    none [] e = cc (append-nil s)
+    none (z ∷ t) e =
+        let m : Mem z l = rw e (mem-right z s (z ∷ t) (inl refl)) in
+        absurd (omega (arith, rising-split s (z ∷ t) z z (rw e at q) (sup z m) (inl refl)))
+
+    go : Begins s l → s ≡ l
+    go b = none (b .0) (b .1)

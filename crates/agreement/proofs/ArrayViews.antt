@@ -2,18 +2,18 @@
 use mathlib.Core.Path.{_≡_, refl, sym, ap, _∙_, fun-ext}
 use mathlib.Core.Logic.{_⊎_, inl, inr, _≢_}
 use mathlib.Core.Bool.{Bool, true, false, cond, _&&_}
-use mathlib.Core.List.{List, []}
+use mathlib.Core.List.{List}
 use Prim.Native.Nat.{ℕ, _<_, _≤_, max}
 use native.Mathlib.Omega.{arith}
 use lib.Dec.{ltb, eqb}
 use lib.ListN.{length, getD, set, replicate, List·getD-eq-default}
 use lib.Seq.{getD-set-same, getD-set-other}
-use borrow.Author.Tests.{ltb-true, lt-ltb, le-ltb, eqb-true, eq-eqb, ne-eqb}
+use borrow.Author.Tests.{ltb-true, lt-ltb, le-ltb, eq-eqb, ne-eqb}
 use Rattle.frame.specs.Layout.{noEntry}
 use Rattle.frame.specs.declared.Entry.{Entry}
 use Rattle.cells.specs.Tables.{entryPlace, stampUnder, withStamp, orderPlace}
 use Rattle.post.specs.Newest.{raisedBelow}
-use Rattle.laws.proofs.TestLaws.{same-or-not, below-or-not, and-parts, and-second}
+use Rattle.laws.proofs.TestLaws.{same-or-not, below-or-not}
 use Rattle.laws.proofs.TableLaws.{stamp-same, stamp-apart, order-places, raisedTo, all-raised, all-raised-length}
 use Rattle.laws.proofs.ValidFresh.{zeros}
 use Rattle.model.proofs.Functions.{upd, upd2, upd-case, upd2-case}
@@ -144,7 +144,8 @@ kept-or-not n = go (below-or-not 0 n) (below-or-not n 17)
     go (inr a) b = inr (λ h. absurd (omega arith))
 
 -- one order is kept
-pub places-set : (l : List ℕ) (i n v : ℕ) → length l ≡ 128 → i < 8 → 0 < n → n < 17 → placesView (set l (orderPlace i n) v) ≡ upd2 (placesView l) i n v
+pub places-set : (l : List ℕ) (i n v : ℕ) → length l ≡ 128 → i < 8 → 0 < n → n < 17
+    → placesView (set l (orderPlace i n) v) ≡ upd2 (placesView l) i n v
 places-set l i n v e h a b =
     fun-ext (λ j. fun-ext (λ m.
     upd2-case (λ (x : ℕ). placesView (set l (orderPlace i n) v) j m ≡ x) (placesView l) i n v j m
@@ -162,7 +163,7 @@ places-set l i n v e h a b =
 
 -- ---- nothing yet
 
--- a list that gives 0 everywhere
+-- a table with 0 everywhere
 pub table-zero : (t : List ℕ) → ((j : ℕ) → getD t j 0 ≡ 0) → tableView t ≡ (λ (i n : ℕ). 0)
 unfolding stampUnder
 table-zero t h = fun-ext (λ i. fun-ext (λ n. go i n (below-or-not n 17)))
@@ -171,6 +172,7 @@ table-zero t h = fun-ext (λ i. fun-ext (λ n. go i n (below-or-not n 17)))
     go i n (inl l) = table-in t i n l ∙ h (entryPlace i n)
     go i n (inr l) = table-out t i n l
 
+-- orders with 0 everywhere
 pub places-zero : (l : List ℕ) → ((j : ℕ) → getD l j 0 ≡ 0) → placesView l ≡ (λ (i n : ℕ). 0)
 places-zero l h = fun-ext (λ i. fun-ext (λ n. go i n (kept-or-not n)))
   where
@@ -178,12 +180,14 @@ places-zero l h = fun-ext (λ i. fun-ext (λ n. go i n (kept-or-not n)))
     go i n (inl k) = places-in l i n (k .0) (k .1) ∙ h (orderPlace i n)
     go i n (inr k) = places-out l i n k
 
--- so zeros
+-- zeros of any length: as last serials
 pub last-zeros : (n : ℕ) → _≡_ {A = ℕ → ℕ} (λ j. getD (replicate n 0) j 0) (λ j. 0)
 last-zeros n = fun-ext (λ j. zeros n j)
 
+-- as a table
 pub table-zeros : (n : ℕ) → tableView (replicate n 0) ≡ (λ (i m : ℕ). 0)
 table-zeros n = table-zero (replicate n 0) (zeros n)
 
+-- as orders taken
 pub places-zeros : (n : ℕ) → placesView (replicate n 0) ≡ (λ (i m : ℕ). 0)
 places-zeros n = places-zero (replicate n 0) (zeros n)

@@ -1,5 +1,5 @@
 -- The frames that a post broadcasts, read as the model's frames: each lane's newest entry is the model's. Assumes nothing.
-use mathlib.Core.Path.{_≡_, refl, sym, ap, _∙_, fun-ext}
+use mathlib.Core.Path.{_≡_, refl, sym, _∙_, fun-ext}
 use mathlib.Core.Logic.{_⊎_, inl, inr}
 use mathlib.Core.Bool.{Bool, true, false, cond, _&&_}
 use mathlib.Core.List.{List}
@@ -10,15 +10,16 @@ use lib.ListN.{length, getD, List·getD-eq-default}
 use borrow.Author.Tests.{ltb-true, ltb-false, leb-true, le-leb, eq-eqb, ne-eqb}
 use Rattle.frame.specs.Layout.{noEntry}
 use Rattle.frame.specs.declared.Entry.{Entry}
-use Rattle.cells.specs.Tables.{stampUnder}
 use Rattle.post.specs.declared.Post.{Post}
-use Rattle.post.specs.Newest.{newer, newestBelow, newest, newestEntries, orderFrame, beaconFrame}
+use Rattle.post.specs.Newest.{newer, newestBelow, newestEntries, orderFrame, beaconFrame}
 use Rattle.laws.proofs.TestLaws.{below-or-not}
 use Rattle.laws.proofs.NewestLaws.{newest-entry}
 use Rattle.laws.proofs.Valid.{Shaped}
 use Rattle.model.proofs.Model.{best, newestStamp, newestSerial, entriesFrame, noOrder}
 use Rattle.agreement.proofs.Views.{postView, frameView, tableView}
 use Rattle.agreement.proofs.ArrayViews.{serialsOf, stampsOf, table-in, table-past}
+
+-- ---- the newest entry of a lane
 
 -- a serial, and 0 where its stamp is 0
 abbrev serialIf : (ℕ → ℕ) → ℕ → ℕ
@@ -53,11 +54,12 @@ says-next T k old e h false true p q =
     (h .0 ∙ before ∙ sym new, h .1 ∙ rw (eq-eqb (T old) 0 before, eq-eqb (T (suc k)) 0 new))
 says-next T k old e h false false p q = h
 
--- so it is in the table
+-- so for the serials of a table: the first
 newer-first : (t : List ℕ) (i : ℕ) → Says (tableView t i) 0 (newer t i 0 noEntry)
 unfolding newer
 newer-first t i = rw (← table-in t i 0 (omega arith)) (says-first (tableView t i) (ltb 0 (tableView t i 0)) refl)
 
+-- and one more
 newer-next : (t : List ℕ) (i k old : ℕ) (e : Entry) → suc k < 17 → Says (tableView t i) old e
     → Says (tableView t i) (cond (leb (tableView t i old) (tableView t i (suc k))) (suc k) old) (newer t i (suc k) e)
 unfolding newer
@@ -86,10 +88,11 @@ entry-best t i e = go (below-or-not i 8)
     go (inl l) = rw (newest-entry t i l) (newest-best t i 16 (omega arith))
     go (inr l) = rw (entry-past t i l, table-past t i (best (tableView t i) 16) e l) (refl, refl)
 
--- their serials and stamps
+-- the serials of all entries
 pub entry-serials : (t : List ℕ) → length t ≡ 136 → serialsOf (newestEntries t) ≡ (λ (i : ℕ). newestSerial (tableView t i))
 entry-serials t e = fun-ext (λ i. entry-best t i e .1)
 
+-- and their stamps
 pub entry-stamps : (t : List ℕ) → length t ≡ 136 → stampsOf (newestEntries t) ≡ (λ (i : ℕ). newestStamp (tableView t i))
 entry-stamps t e = fun-ext (λ i. entry-best t i e .0)
 

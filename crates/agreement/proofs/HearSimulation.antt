@@ -38,7 +38,7 @@ use Rattle.agreement.proofs.BeaconWays.{BeaconDone, beacon-done}
 use Rattle.agreement.proofs.OrderSimulation.{posts-view, climbs-before}
 
 -- the model's hearing, by whether the order is taken
-hearing-takes : (R : model.Roles) (Y : model.Yard) (p : ℕ) (F : model.Frame) → model.takes (model.raised (Y .posts p) F) F ≡ true
+pub hearing-takes : (R : model.Roles) (Y : model.Yard) (p : ℕ) (F : model.Frame) → model.takes (model.raised (Y .posts p) F) F ≡ true
     → model.hearDone R Y p F
     ≡ model.spoken Y p (model.deliver R p (model.taken R p (F .carried) (model.raised (Y .posts p) F)))
     (model.entriesFrame false p (F .carried) (model.taken R p (F .carried) (model.raised (Y .posts p) F)))
@@ -57,7 +57,7 @@ module _ (present sources dests : ℕ) where
   module _ (delivers : (lane : ℕ) (q : posts.Post) → InYard present sources dests lane q → Climbs (postView q)
       → postView (delivered q .post) ≡ model.deliver R lane (postView q)) where
     module _ (w : World) (s : Sound present sources dests w) (lane k : ℕ) (h : Hearing w lane k)
-        (z : hearRefusal (postAt (w .yard) lane) (frameAt (w .air) k) ≡ 0) (room : w .yard .frames < 2048)
+        (z : hearRefusal (postAt (w .yard) lane) (frameAt (w .air) k) ≡ 0)
         (after : YardOk R (model.hearDone R (yardView w) lane (frameView (frameAt (w .air) k)))) where
       abbrev p : posts.Post
       p = postAt (w .yard) lane
@@ -132,7 +132,7 @@ module _ (present sources dests : ℕ) where
 
       -- ---- the order is taken
 
-      module _ (n : isNext f (lastOf p (f .lane)) ≡ true) where
+      module _ (n : isNext f (lastOf p (f .lane)) ≡ true) (room : w .yard .frames < 2048) where
         abbrev Q : model.Post
         Q = model.taken R lane (F .carried) (model.raised (postView p) F)
 

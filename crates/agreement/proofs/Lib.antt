@@ -2,6 +2,7 @@ pub mod Views
 pub mod ArrayViews
 pub mod PostViews
 pub mod FrameViews
+pub mod DeliveryViews
 pub mod AirViews
 pub mod Sound
 pub mod OrderWays
@@ -10,3 +11,6 @@ pub mod BeaconWays
 pub mod YardNumbers
 pub mod OrderSimulation
 pub mod HearSimulation
+pub mod Simulation
+pub mod SinglesSimulate
+pub mod EachSingle

@@ -1,12 +1,13 @@
 -- A post read as the model's post: taking an order, raising by entries and a fresh post are the model's. Assumes nothing.
-use mathlib.Core.Path.{_≡_, refl, sym, ap, _∙_}
+use mathlib.Core.Path.{_≡_, refl, ap, _∙_}
 use mathlib.Core.Logic.{inl, inr, _≢_}
 use mathlib.Core.Bool.{Bool, true, false, cond, not, _&&_}
 use mathlib.Core.List.{List, [], _∷_, map}
 use Prim.Native.Nat.{ℕ, suc, _+_, _/_, _%_, _<_, _≤_, max}
 use native.Mathlib.Omega.{arith}
 use native.Mathlib.Numerals.{add-one}
-use lib.Dec.{ltb, eqb}
+use lib.Dec.{eqb}
+use lib.ListN.{length}
 use borrow.Author.Tests.{ltb-true}
 use Rattle.frame.specs.declared.Frame.{Frame}
 use Rattle.frame.specs.Layout.{Fits}
@@ -31,11 +32,11 @@ use Rattle.laws.proofs.Hearable.{next-is}
 use Rattle.model.proofs.Functions.{upd, upd2}
 use Rattle.model.proofs.Model as model
 use Rattle.agreement.proofs.Views.{postView, frameView, tableView, placesView}
-use Rattle.agreement.proofs.ArrayViews.{last-set, table-set, serialsOf, stampsOf, table-raised, places-set, last-zeros, table-zeros, places-zeros, table-zero, places-zero}
+use Rattle.agreement.proofs.ArrayViews.{last-set, table-set, serialsOf, stampsOf, table-raised, places-set, last-zeros, table-zeros, places-zeros}
 
 -- ---- the log while an order is taken
 
--- members of two lists, made alike from one list, are alike
+-- two lists made from one list, member by member alike, are one
 map-same : (f g : ℕ → Order) (l : List ℕ) → ((x : ℕ) → Mem x l → f x ≡ g x) → map f l ≡ map g l
 map-same f g [] h = refl
 map-same f g (x ∷ l) h = rw (h x (inl refl), map-same f g l (λ y m. h y (inr m)))
@@ -77,6 +78,7 @@ unfolding ordered ticked kept
 view-ordered p word s v h =
     let clock : ℕ = p .clock .0 + 1 in
     let serial : ℕ = p .serial .0 + 1 in
+    let table : List ℕ = withStamp (p .table) (p .lane) serial clock in
     rw (← add-one (p .clock .0), ← add-one (p .serial .0))
     (λ t. record {
       clock = clock;
@@ -85,7 +87,7 @@ view-ordered p word s v h =
       table = table-set (p .table) (p .lane) serial clock (s .table) (v .lane) (omega arith) t;
       stamps = places-set (p .stamps) (p .lane) serial clock (s .stamps) (v .lane) (omega arith) (omega arith) t;
       words = places-set (p .words) (p .lane) serial word (s .words) (v .lane) (omega arith) (omega arith) t;
-      log = kept-log p clock serial (withStamp (p .table) (p .lane) serial clock) (p .lane) serial clock word s v (omega (arith, v .own)) (omega arith) t;
+      log = kept-log p clock serial table (p .lane) serial clock word s v (omega (arith, v .own)) (omega arith) t;
     })
 
 -- the entries of a frame that is not refused
@@ -118,6 +120,7 @@ view-taken p f s v z c n R r = rw r (go (isSource p (p .lane)))
     few : f .serial .0 < 17
     few = omega (arith, order .serial)
 
+    -- what the post has after the entries: its table here and in the model
     table : List ℕ
     table = raisedBelow (p .table) (f .entries) 8
 
@@ -127,15 +130,20 @@ view-taken p f s v z c n R r = rw r (go (isSource p (p .lane)))
     clock : ℕ
     clock = max (p .clock .0) (f .stamp .0) + 1
 
+    -- the post with the order kept; a source ticks as well
     q : Post
     q = kept (raisedPost p f) (f .lane) (f .serial .0) (f .stamp .0) (f .word)
 
-    heard : tableView (raisedBelow (p .table) (f .entries) 8) ≡ model.raise (tableView (p .table)) (serialsOf (f .entries)) (stampsOf (f .entries))
+    -- the table after the entries, and after the own entry too
+    heard : tableView table ≡ raised
     heard = table-raised (p .table) (f .entries) (s .table) (c .count) (accepted f z .serials)
+
+    long : length table ≡ 136
+    long = all-raised-length (p .table) (f .entries) 8 ∙ s .table
 
     own : tableView (withStamp table (p .lane) (p .serial .0) clock) ≡ upd2 raised (p .lane) (p .serial .0) (suc (max (p .clock .0) (f .stamp .0)))
     own =
-        table-set table (p .lane) (p .serial .0) clock (all-raised-length (p .table) (f .entries) 8 ∙ s .table) (v .lane) (omega (arith, v .serial))
+        table-set table (p .lane) (p .serial .0) clock long (v .lane) (omega (arith, v .serial))
         ∙ rw (add-one (max (p .clock .0) (f .stamp .0)), heard)
 
     -- the parts that do not depend on the role
@@ -151,8 +159,11 @@ view-taken p f s v z c n R r = rw r (go (isSource p (p .lane)))
     words : placesView (q .words) ≡ upd2 (placesView (p .words)) (f .lane) (f .serial .0) (f .word)
     words = places-set (p .words) (f .lane) (f .serial .0) (f .word) (s .words) (order .lane) (order .some) few
 
+    roles : Bool → model.Roles
+    roles b = record { source = λ i. b; dest = R .dest; present = R .present }
+
     go : (b : Bool) → postView (cond b (ticked q (p .serial .0) clock) q)
-        ≡ model.taken (record { source = λ i. b; dest = R .dest; present = R .present }) (p .lane) (frameView f .carried) (model.raised (postView p) (frameView f))
+        ≡ model.taken (roles b) (p .lane) (frameView f .carried) (model.raised (postView p) (frameView f))
     go true = λ t. record {
       clock = add-one (max (p .clock .0) (f .stamp .0)) t;
       own = p .serial .0;

@@ -14,3 +14,5 @@ pub mod HearSimulation
 pub mod Simulation
 pub mod SinglesSimulate
 pub mod EachSingle
+pub mod RollViews
+pub mod FreshYards

@@ -1,0 +1,142 @@
+-- A fresh yard that is not refused: its roles, its records, and how the model sees it. Assumes nothing.
+use mathlib.Core.Path.{_≡_, refl, sym, ap, _∙_, fun-ext}
+use mathlib.Core.List.{List, []}
+use mathlib.Core.Logic.{_⊎_, inl, inr, _≢_}
+use mathlib.Core.Bool.{Bool, true, false, cond, not, _&&_, _||_}
+use Prim.Native.Nat.{ℕ, zero, suc, _/_, _%_, _^_, _<_, _≤_}
+use native.Mathlib.Omega.{arith}
+use lib.Dec.{ltb, eqb}
+use lib.Count.{ones}
+use lib.ListN.{length, getD, length-replicate, List·getD-eq-default}
+use borrow.Author.Tests.{ltb-true, eqb-false, le-ltb}
+use Rattle.frame.specs.Lanes.{anyBelow}
+use Rattle.frame.proofs.Laws.{passed}
+use Rattle.cells.specs.Sets.{hasLane}
+use Rattle.post.specs.declared.Post.{Post}
+use Rattle.post.specs.Record.{freshPost}
+use Rattle.judge.specs.Judgement.{badRecord}
+use Rattle.yard.specs.Yards.{noPost, postAt, freshYard, yardRefusal}
+use Rattle.roll.specs.Logs.{logAt}
+use Rattle.laws.proofs.TestLaws.{below-or-not, and-parts, or-parts}
+use Rattle.laws.proofs.Valid.{Valid, judged-valid, valid-judged}
+use Rattle.laws.proofs.ValidFresh.{fresh-judged, fresh-shaped, fresh-valid}
+use Rattle.model.proofs.Model as model
+use Rattle.model.proofs.Invariants.{RolesOk}
+use Rattle.agreement.specs.Demand3.{freshWorld}
+use Rattle.agreement.proofs.Views.{rolesOf, placesView, postView, airView, yardView}
+use Rattle.agreement.proofs.ArrayViews.{places-zeros}
+use Rattle.agreement.proofs.PostViews.{view-fresh, view-none}
+use Rattle.agreement.proofs.Sound.{InYard, Sound}
+use Rattle.agreement.proofs.RollViews.{ones-some}
+
+module _ (present sources dests : ℕ) where
+  -- the record of each lane
+  pub fresh-at : (lane : ℕ) → lane < 8 → postAt (freshYard present sources dests) lane ≡ freshPost lane present sources dests
+  unfolding freshYard
+  fresh-at zero l = refl
+  fresh-at (suc zero) l = refl
+  fresh-at (suc (suc zero)) l = refl
+  fresh-at (suc (suc (suc zero))) l = refl
+  fresh-at (suc (suc (suc (suc zero)))) l = refl
+  fresh-at (suc (suc (suc (suc (suc zero))))) l = refl
+  fresh-at (suc (suc (suc (suc (suc (suc zero)))))) l = refl
+  fresh-at (suc (suc (suc (suc (suc (suc (suc zero))))))) l = refl
+  fresh-at (suc (suc (suc (suc (suc (suc (suc (suc n)))))))) l = absurd (omega arith)
+
+  eight-posts : length (freshYard present sources dests .posts) ≡ 8
+  unfolding freshYard
+  eight-posts = refl
+
+  pub none-past : (lane : ℕ) → 8 ≤ lane → postAt (freshYard present sources dests) lane ≡ noPost
+  none-past lane l = List·getD-eq-default (freshYard present sources dests .posts) noPost {n = lane} (omega (arith, eight-posts))
+
+  -- as the model sees it
+  fresh-post-view : (lane : ℕ) → postView (postAt (freshYard present sources dests) lane) ≡ model.freshPost
+  fresh-post-view lane = go (below-or-not lane 8)
+    where
+      go : (lane < 8) ⊎ (8 ≤ lane) → postView (postAt (freshYard present sources dests) lane) ≡ model.freshPost
+      go (inl l) = ap postView (fresh-at lane l) ∙ view-fresh lane present sources dests
+      go (inr l) = ap postView (none-past lane l) ∙ view-none
+
+  fresh-numbers : (freshYard present sources dests .frames ≡ 0) × (freshYard present sources dests .beacons ≡ 0)
+  unfolding freshYard
+  fresh-numbers = (refl, refl)
+
+  fresh-first : placesView (freshYard present sources dests .first) ≡ (λ (i n : ℕ). 0)
+  unfolding freshYard
+  fresh-first = places-zeros 128
+
+  pub fresh-view : (air : List ℕ) → yardView (freshWorld present sources dests air) ≡ model.fresh (airView air 0)
+  unfolding model.fresh
+  fresh-view air = λ t. record {
+    posts = λ lane. fresh-post-view lane t;
+    air = airView air (fresh-numbers .0 t);
+    frames = fresh-numbers .0 t;
+    beacons = fresh-numbers .1 t;
+    first = fresh-first t;
+  }
+
+  -- a log in which there is nothing
+  pub fresh-log : (air : List ℕ) (lane : ℕ) → logAt (freshWorld present sources dests air) lane ≡ []
+  fresh-log air lane = ap (λ (P : model.Post). P .log) (fresh-post-view lane) ∙ (unfold model.freshPost in refl)
+
+  module _ (small : present < 256) (smallSources : sources < 256) (smallDests : dests < 256) (z : yardRefusal present sources dests ≡ 0) where
+    -- there is a post
+    pub some-post : 0 < present
+    some-post = let e = eqb-false present 0 (passed (eqb present 0) 3 (cond (badRecord (freshPost 0 present sources dests)) 12 0) (omega arith) parts .0) in omega arith
+      where
+        parts : _≡_ {A = ℕ} (cond (eqb present 0) 3 (cond (badRecord (freshPost 0 present sources dests)) 12 0)) 0
+        parts = unfold yardRefusal in z
+
+    -- no record is refused
+    judged : badRecord (freshPost 0 present sources dests) ≡ false
+    judged = passed (badRecord (freshPost 0 present sources dests)) 12 0 (omega arith) (passed (eqb present 0) 3 (cond (badRecord (freshPost 0 present sources dests)) 12 0) (omega arith) parts .1) .0
+      where
+        parts : _≡_ {A = ℕ} (cond (eqb present 0) 3 (cond (badRecord (freshPost 0 present sources dests)) 12 0)) 0
+        parts = unfold yardRefusal in z
+
+    roles-judged : anyBelow (λ (i : ℕ). (hasLane sources i || hasLane dests i) && not (hasLane present i)) 8 ≡ false
+    roles-judged =
+        or-parts (ltb 7 0) (anyBelow (λ (i : ℕ). (hasLane sources i || hasLane dests i) && not (hasLane present i)) 8)
+        (sym (fresh-judged 0 present sources dests) ∙ judged) .1
+
+    first-valid : Valid (freshPost 0 present sources dests)
+    first-valid = judged-valid (freshPost 0 present sources dests) judged
+
+    below-eight : (set i : ℕ) → hasLane set i ≡ true → i < 8
+    below-eight set i e = ltb-true i 8 (and-parts (ltb i 8) (eqb (set / 2 ^ i % 2) 1) e .0)
+
+    pub roles-ok : RolesOk (rolesOf present sources dests)
+    roles-ok = record {
+      sourcesPresent = λ i e. first-valid .sources i (below-eight sources i e) e;
+      destsPresent = λ i e. first-valid .dests i (below-eight dests i e) e;
+      presentLanes = λ i e. below-eight present i e;
+    }
+
+    fresh-in-yard : (lane : ℕ) → lane < 8 → InYard present sources dests lane (postAt (freshYard present sources dests) lane)
+    fresh-in-yard lane l = rw (fresh-at lane l) (record {
+      itsLane = refl;
+      itsPosts = refl;
+      itsSources = refl;
+      itsDests = refl;
+      shaped = fresh-shaped lane present sources dests small smallSources smallDests;
+      valid = fresh-valid lane present sources dests l roles-judged;
+    })
+
+    pub fresh-sound : (air : List ℕ) → length air ≡ 65536 → Sound present sources dests (freshWorld present sources dests air)
+    fresh-sound air e = record {
+      itsPresent = unfold freshYard in refl;
+      itsSources = unfold freshYard in refl;
+      eight = eight-posts;
+      places = unfold freshYard in length-replicate {A = ℕ} 128 0;
+      whole = e;
+      post = fresh-in-yard;
+      onAir = λ k l. absurd (omega (arith, fresh-numbers .0));
+    }
+
+    pub fresh-records : (lane : ℕ) → lane < 8 → badRecord (postAt (freshYard present sources dests) lane) ≡ false
+    fresh-records lane l = valid-judged (postAt (freshYard present sources dests) lane) (fresh-in-yard lane l .valid)
+
+    -- N is not 0
+    pub some-ones : 0 < ones present
+    some-ones = ones-some present small some-post

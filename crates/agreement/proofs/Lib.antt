@@ -16,3 +16,6 @@ pub mod SinglesSimulate
 pub mod EachSingle
 pub mod RollViews
 pub mod FreshYards
+pub mod WrongAir
+pub mod RunSimulation
+pub mod StepSimulation

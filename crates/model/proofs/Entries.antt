@@ -10,7 +10,7 @@ use borrow.Author.Tests.{eqb-true, eq-eqb, ne-eqb, le-leb, lt-leb}
 use Rattle.laws.proofs.TestLaws.{same-or-not}
 use Rattle.roll.specs.Runs.{Order}
 use Rattle.model.proofs.Functions.{le-or-not}
-use Rattle.model.proofs.Model.{Post, Roles, Yard, best, newestStamp, entriesFrame, noOrder, raise}
+use Rattle.model.proofs.Model.{Frame, Post, Roles, Yard, best, newestStamp, entriesFrame, noOrder, raise}
 use Rattle.model.proofs.Invariants.{Posts, Holds, Sent, Knows, SelfOk, FrameOk, YardOk}
 
 -- ---- hearing raises the table
@@ -44,7 +44,8 @@ raise-own R W p e s o b h = go (eqb (W p .own) (e p)) (low (le-or-not (s p) 0))
     low (inl l) = omega arith
     low (inr l) = omega (arith, h l .clockReached, o .ownEntry b)
 
-    go : (b : Bool) → s p ≤ W p .table p (W p .own) → cond b (max (W p .table p (W p .own)) (s p)) (W p .table p (W p .own)) ≡ W p .table p (W p .own)
+    go : (b : Bool) → s p ≤ W p .table p (W p .own)
+        → cond b (max (W p .table p (W p .own)) (s p)) (W p .table p (W p .own)) ≡ W p .table p (W p .own)
     go true l = omega arith
     go false l = refl
 
@@ -94,11 +95,20 @@ best-at T m (suc k) l h = go (same-or-not m (suc k)) (best-at T m k)
     go (inl e) ih = rw (le-leb (T (best T k)) (T (suc k)) (low (best T k) (same-or-not (best T k) (suc k)) e)) (sym e)
     go (inr e) ih = rw (ih (omega arith) h, lt-leb (T m) (T (suc k)) (h (suc k) (λ z. e (sym z)))) refl
 
--- the sender's own entry of a source's beacon is its own serial and its clock
-pub beacon-own : (R : Roles) (Y : Yard) → YardOk R Y → (i : ℕ) → R .source i ≡ true → 0 < Y .posts i .clock
-    → (entriesFrame true i noOrder (Y .posts i) .entrySerial i ≡ Y .posts i .own)
-    × (entriesFrame true i noOrder (Y .posts i) .entryStamp i ≡ Y .posts i .clock)
-beacon-own R Y y i b positive = (rw (ne-eqb (newestStamp T) 0 (omega (arith, stamp))) at-own, stamp)
+-- f is a beacon of post i, and its entry of lane i is the own serial and the clock of post i; where the clock is 0 it may be none
+pub record OwnBeacon (W : Posts) (i : ℕ) (f : Frame) : Type 0 where
+  pub isBeacon : f .beacon ≡ true
+  pub beaconFrom : f .sender ≡ i
+  pub saysOwn : 0 < W i .clock → (f .entrySerial i ≡ W i .own) × (f .entryStamp i ≡ W i .clock)
+
+-- the sender's own entry of a source's beacon
+pub own-beacon : (R : Roles) (Y : Yard) → YardOk R Y → (i : ℕ) → R .source i ≡ true
+    → OwnBeacon (Y .posts) i (entriesFrame true i noOrder (Y .posts i))
+own-beacon R Y y i b = record {
+  isBeacon = refl;
+  beaconFrom = refl;
+  saysOwn = λ h. (rw (ne-eqb (newestStamp T) 0 (omega (arith, stamp h))) (at-own h), stamp h);
+}
   where
     P : Post
     P = Y .posts i
@@ -109,13 +119,19 @@ beacon-own R Y y i b positive = (rw (ne-eqb (newestStamp T) 0 (omega (arith, sta
     s : SelfOk R i P
     s = y .selves i
 
-    lower : (n : ℕ) → n ≢ P .own → (T n ≤ 0) ⊎ (0 < T n) → T n < T (P .own)
-    lower n ne (inl l) = omega (arith, s .ownEntry b)
-    lower n ne (inr l) = let h = y .postsOk i .knows .entriesTrue i n l in
-        omega (arith, h .beforeNext (omega (arith, h .serialSent)), s .ownEntry b, s .stampsUnderClock (suc n) (omega arith) (omega (arith, h .serialSent)))
+    -- its entry at its own serial is its clock, and all others of its lane are lower
+    lower : 0 < P .clock → (n : ℕ) → n ≢ P .own → (T n ≤ 0) ⊎ (0 < T n) → T n < T (P .own)
+    lower h n ne (inl l) = omega (arith, s .ownEntry b)
+    lower h n ne (inr l) = let e = y .postsOk i .knows .entriesTrue i n l in
+        omega (
+          arith,
+          e .beforeNext (omega (arith, e .serialSent)),
+          s .ownEntry b,
+          s .stampsUnderClock (suc n) (omega arith) (omega (arith, e .serialSent)),
+        )
 
-    at-own : best T 16 ≡ P .own
-    at-own = best-at T (P .own) 16 (s .ownAtMost) (λ n ne. lower n ne (le-or-not (T n) 0))
+    at-own : 0 < P .clock → best T 16 ≡ P .own
+    at-own h = best-at T (P .own) 16 (s .ownAtMost) (λ n ne. lower h n ne (le-or-not (T n) 0))
 
-    stamp : newestStamp T ≡ P .clock
-    stamp = ap T at-own ∙ s .ownEntry b
+    stamp : 0 < P .clock → newestStamp T ≡ P .clock
+    stamp h = ap T (at-own h) ∙ s .ownEntry b

@@ -5,3 +5,16 @@ pub mod Invariants
 pub mod Taken
 pub mod Delivery
 pub mod Entries
+pub mod Changes
+pub mod Ordering
+pub mod Hearing
+pub mod Steps
+pub mod SentOrders
+pub mod Air
+pub mod Counts
+pub mod RollLists
+pub mod RollHears
+pub mod RollBeacons
+pub mod BeaconHears
+pub mod RollCall
+pub mod Moves

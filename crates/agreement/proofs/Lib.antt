@@ -19,3 +19,5 @@ pub mod FreshYards
 pub mod WrongAir
 pub mod RunSimulation
 pub mod StepSimulation
+pub mod Beginnings
+pub mod Theorem

@@ -32,7 +32,7 @@ use Rattle.agreement.proofs.HearSimulation.{hearing-takes, hear-silent-
 use Rattle.agreement.proofs.Simulation.{hear-zero, Fit, Simulates, hear-refused-same, beacon-refused-same, hear-numbers, beacon-numbers, order-simulates}
 
 -- the model's frame k is that of the air
-air-at : (w : World) (k : ℕ) → k < w .yard .frames → airView (w .air) (w .yard .frames) k ≡ frameView (frameAt (w .air) k)
+pub air-at : (w : World) (k : ℕ) → k < w .yard .frames → airView (w .air) (w .yard .frames) k ≡ frameView (frameAt (w .air) k)
 unfolding airView
 air-at w k l = rw (lt-ltb k (w .yard .frames) l)
 

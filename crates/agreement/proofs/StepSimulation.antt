@@ -28,17 +28,17 @@ module _ (present sources dests : ℕ) (small : sources < 256) (ro : RolesOk (ro
   R = rolesOf present sources dests
 
   -- the invariant, whatever was sent
-  abbrev Keeps : model.Yard → Type 0
+  abbrev pub Keeps : model.Yard → Type 0
   Keeps Y = (S : List Order) × Good R ro Y S
 
-  fits : (Y : model.Yard) → Keeps Y → Fit present sources dests Y
+  pub fits : (Y : model.Yard) → Keeps Y → Fit present sources dests Y
   fits Y g = record {
     ok = g .1 .yardOk;
     low = clock-bound R Y (g .1 .yardOk) (g .1 .airOk);
     room = frames-bound R Y (g .1 .yardOk) (g .1 .airOk);
   }
 
-  next : (Y : model.Yard) → Keeps Y → (s : Single) → Keeps (model.step R Y s)
+  pub next : (Y : model.Yard) → Keeps Y → (s : Single) → Keeps (model.step R Y s)
   next Y g s = (g .0 ++ model.sentBy R Y s, single-good R ro Y (g .0) (g .1) s)
 
   -- what a step of a list does, seen in the model

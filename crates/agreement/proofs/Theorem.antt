@@ -1,0 +1,206 @@
+-- DEMAND 3, proved: `agreement`. The statement is specs/Demand3.antt. Assumes nothing.
+use mathlib.Core.Path.{_≡_, refl, sym, ap, _∙_, subst}
+use mathlib.Core.List.{List, [], _∷_, _++_, append-nil}
+use mathlib.Core.Logic.{_⊎_, inl, inr, _≢_}
+use mathlib.Core.Bool.{Bool, true, false, cond, not}
+use Prim.Native.Nat.{ℕ, _+_, _*_, _-_, _<_, _≤_}
+use native.Mathlib.Omega.{arith}
+use lib.Count.{ones}
+use lib.ListN.{length, getD}
+use borrow.Author.Tests.{eqb-true, eq-eqb, ne-eqb, not-false}
+use Rattle.cells.specs.Sets.{hasLane}
+use Rattle.cells.specs.Tables.{orderPlace}
+use Rattle.post.specs.declared.Post.{Post}
+use Rattle.judge.specs.Judgement.{badRecord}
+use Rattle.steps.specs.Refusals.{isOrder}
+use Rattle.yard.specs.Yards.{postAt, freshYard, yardRefusal}
+use Rattle.yard.specs.Singles.{frameAt}
+use Rattle.yard.specs.Worlds.{World}
+use Rattle.roll.specs.declared.RollAnswer as calling
+use Rattle.roll.specs.RollCall.{rollSteps, rollRefusal, rollCall}
+use Rattle.roll.specs.Runs.{Step, roll, Answer, ordered, heard, beaconed, called, answer, step, run, Order, sent}
+use Rattle.roll.specs.Logs.{logAt, inOrder}
+use Rattle.laws.proofs.TestLaws.{same-or-not}
+use Rattle.laws.proofs.ListLaws.{Begins}
+use Rattle.laws.proofs.Valid.{valid-judged}
+use Rattle.model.proofs.Model as model
+use Rattle.model.proofs.Invariants.{RolesOk}
+use Rattle.model.proofs.OrderLists.{Apart, mem-in-order, in-order-mem, in-order-rises}
+use Rattle.model.proofs.Air.{First, IsOf, frames-bound}
+use Rattle.model.proofs.Moves as moving
+use Rattle.agreement.specs.YardRefusals.{answerNumber, stepRefusal}
+use Rattle.agreement.specs.Demand3.{freshWorld, OneList, RollCalled, FirstFrame, Demand3, Agreement}
+use Rattle.agreement.proofs.Views.{rolesOf, placesView, frameView, airView, yardView}
+use Rattle.agreement.proofs.ArrayViews.{places-in}
+use Rattle.agreement.proofs.Sound.{Sound}
+use Rattle.agreement.proofs.RollViews.{count-sources, count-posts}
+use Rattle.agreement.proofs.SinglesSimulate.{air-at}
+use Rattle.agreement.proofs.RunSimulation.{roll-same}
+use Rattle.agreement.proofs.StepSimulation.{Keeps, fits, next, StepSimulates, step-simulates, roll-number, RunSimulates, run-simulates}
+use Rattle.agreement.proofs.FreshYards.{fresh-at, fresh-view, fresh-log, roles-ok, fresh-sound, fresh-records, some-ones}
+use Rattle.agreement.proofs.WrongAir.{Refused, each-refused, never-runs, never-sends}
+use Rattle.agreement.proofs.Beginnings.{begin-each-other, length-in-order, rising}
+
+-- how many steps an answer says were run
+abbrev stepsSaid : Answer → ℕ
+stepsSaid (ordered a) = 0
+stepsSaid (heard a) = 0
+stepsSaid (beaconed a) = 0
+stepsSaid (called (calling.the-variants.Called n)) = n
+stepsSaid (called (calling.the-variants.Refused n)) = 0
+
+-- a roll call that answers a count was not refused, and ran that many steps
+roll-ran : (w : World) (n : ℕ) → answer w roll ≡ called (calling.the-variants.Called n) → (rollRefusal w ≡ 0) × (n ≡ length (rollSteps w))
+unfolding answer rollCall
+roll-ran w n e = go (same-or-not (rollRefusal w) 0)
+  where
+    go : (rollRefusal w ≡ 0) ⊎ (rollRefusal w ≢ 0) → (rollRefusal w ≡ 0) × (n ≡ length (rollSteps w))
+    go (inl z) = (z, sym (ap stepsSaid e) ∙ rw z refl)
+    go (inr ne) = absurd (ne (let r : _≡_ {A = ℕ} (rollRefusal w) 0 = rw (ne-eqb (rollRefusal w) 0 ne) at (ap answerNumber e) in r))
+
+-- the list of the orders sent, where no two have one stamp and lane
+one-list : (w : World) (steps : List Step) → Apart (sent w steps) → OneList w steps
+one-list w steps a = record {
+  all = λ o m. mem-in-order o (sent w steps) m;
+  only = λ o m. in-order-mem o (sent w steps) m;
+  count = length-in-order (sent w steps);
+  rising = rising (inOrder (sent w steps)) (in-order-rises (sent w steps) a);
+}
+
+-- the model's first frame of an order is that of the air
+first-frame : (v : World) (lane serial k : ℕ) → First (airView (v .air) (v .yard .frames)) (v .yard .frames) lane serial k → FirstFrame v lane serial k
+first-frame v lane serial k f =
+    let here : IsOf (frameView (frameAt (v .air) k)) lane serial = rw (air-at v k (f .onAir)) at (f .isOf) in
+    record {
+      onAir = f .onAir;
+      kind = eqb-true (frameAt (v .air) k .kind) 1 (not-false (isOrder (frameAt (v .air) k)) (here .0));
+      ofLane = here .1;
+      ofSerial = here .2;
+      sender = rw (air-at v k (f .onAir)) at (f .fromItsLane);
+      before = λ j l e i n. f .noneEarlier j l (rw (air-at v j (omega (arith, f .onAir))) (ap not (eq-eqb (frameAt (v .air) j .kind) 1 e), i, n));
+    }
+
+module _ (present sources dests : ℕ) (air : List ℕ) (small : present < 256) (smallSources : sources < 256) (smallDests : dests < 256)
+    (z : yardRefusal present sources dests ≡ 0) where
+  abbrev w : World
+  w = freshWorld present sources dests air
+
+  -- ---- an air of the right length
+
+  module _ (whole : length air ≡ 65536) where
+    abbrev R : model.Roles
+    R = rolesOf present sources dests
+
+    ro : RolesOk R
+    ro = roles-ok present sources dests small smallSources smallDests z
+
+    abbrev Y : model.Yard
+    Y = model.fresh (airView air 0)
+
+    start : Sound present sources dests w
+    start = fresh-sound present sources dests small smallSources smallDests z air whole
+
+    start-keeps : Keeps present sources dests smallSources ro (yardView w)
+    start-keeps = ([], subst (λ (X : model.Yard). moving.Good R ro X []) (sym (fresh-view present sources dests air)) (moving.fresh-good R ro (airView air 0)))
+
+    reached : (steps : List Step) → RunSimulates present sources dests smallSources ro w steps
+    reached steps = run-simulates present sources dests smallSources ro w start start-keeps steps
+
+    -- the model after the same steps
+    view : (steps : List Step) → yardView (run w steps) ≡ moving.moves R Y steps
+    view steps = reached steps .view ∙ ap (λ (X : model.Yard). moving.moves R X steps) (fresh-view present sources dests air)
+
+    sends : (steps : List Step) → sent w steps ≡ moving.allSent R Y steps
+    sends steps = reached steps .sends ∙ ap (λ (X : model.Yard). moving.allSent R X steps) (fresh-view present sources dests air)
+
+    good : (steps : List Step) → moving.Good R ro (yardView (run w steps)) (sent w steps)
+    good steps = rw (view steps, sends steps) (moving.good R ro (airView air 0) steps)
+
+    each : (steps : List Step) (s : Step) → StepSimulates present sources dests smallSources ro (run w steps) s
+    each steps s = step-simulates present sources dests smallSources ro (run w steps) (reached steps .sound) (sent w steps, good steps) s
+
+    log-is : (steps : List Step) (lane : ℕ) → logAt (run w steps) lane ≡ moving.moves R Y steps .posts lane .log
+    log-is steps lane = ap (λ (X : model.Yard). X .posts lane .log) (view steps)
+
+    logs : (steps more : List Step) (lane : ℕ) → Begins (logAt (run w steps) lane) (inOrder (sent w (steps ++ more)))
+    logs steps more lane = rw (log-is steps lane, sends (steps ++ more)) (moving.logs R ro (airView air 0) steps more lane)
+
+    agree : (steps more : List Step) (a b : ℕ)
+        → Begins (logAt (run w steps) a) (logAt (run w (steps ++ more)) b) ⊎ Begins (logAt (run w (steps ++ more)) b) (logAt (run w steps) a)
+    agree steps more a b =
+        begin-each-other (logAt (run w steps) a) (logAt (run w (steps ++ more)) b) (inOrder (sent w (steps ++ more)))
+        (logs steps more a)
+        (rw (append-nil (steps ++ more)) at (logs (steps ++ more) [] b))
+
+    rolls : (steps : List Step) (n : ℕ) → answer (run w steps) roll ≡ called (calling.the-variants.Called n) → RollCalled present sources dests w steps n
+    rolls steps n e =
+        let ran = roll-ran (run w steps) n e in
+        let c = moving.called R ro (airView air 0) steps (rw (count-posts present sources dests small) (some-ones present sources dests small smallSources smallDests z))
+        (rw (view steps) at (sym (roll-number present sources dests smallSources ro (run w steps) (reached steps .sound)) ∙ ran .0)) in
+        record {
+          logs = λ lane d. rw (log-is (steps ++ (roll ∷ [])) lane, sends (steps ++ (roll ∷ [])), c .noneSent) (c .logsWhole lane d);
+          ran = ran .1;
+          formula = ran .1 ∙ counted steps ∙ c .answerIs
+              ∙ rw (count-posts present sources dests small, count-sources present sources dests smallSources, sends steps) refl;
+        }
+      where
+        counted : (steps : List Step) → length (rollSteps (run w steps)) ≡ moving.rollAnswer R (moving.moves R Y steps)
+        counted steps =
+            ap length (roll-same present sources dests (Keeps present sources dests smallSources ro) (fits present sources dests smallSources ro)
+            (next present sources dests smallSources ro) (run w steps) (reached steps .sound) (sent w steps, good steps))
+            ∙ (unfold moving.rollAnswer in ap (λ (X : model.Yard). length (model.rollSteps R X)) (view steps))
+
+    firsts : (steps : List Step) (lane serial : ℕ) → lane < 8 → 0 < serial → serial ≤ postAt (run w steps .yard) lane .serial .0
+        → FirstFrame (run w steps) lane serial (getD (run w steps .yard .first) (orderPlace lane serial) 0)
+    firsts steps lane serial l a b =
+        let g = good steps in
+        let few : serial < 17 = omega (arith, g .yardOk .selves lane .ownAtMost) in
+        rw (← places-in (run w steps .yard .first) lane serial a few)
+        (first-frame (run w steps) lane serial (placesView (run w steps .yard .first) lane serial) (g .airOk .firstFrames lane serial a b))
+
+    holds : Demand3 present sources dests w
+    holds = record {
+      logs = logs;
+      list = λ steps. one-list w steps (good steps .sentListed .listedApart);
+      agree = agree;
+      rolls = rolls;
+      refusals = λ steps s. each steps s .number;
+      stays = λ steps s h. each steps s .stays (rw (each steps s .number) at h);
+      room = λ steps. frames-bound R (yardView (run w steps)) (good steps .yardOk) (good steps .airOk);
+      records = λ steps lane l. valid-judged (postAt (run w steps .yard) lane) (reached steps .sound .post lane l .valid);
+      firsts = firsts;
+    }
+
+  -- ---- an air of another length
+
+  module _ (bad : length air ≢ 65536) where
+    stands : (steps : List Step) → run w steps ≡ w
+    stands steps = never-runs w bad steps
+
+    nothing-sent : (steps : List Step) → sent w steps ≡ []
+    nothing-sent steps = never-sends w bad steps
+
+    no-log : (steps : List Step) (lane : ℕ) → logAt (run w steps) lane ≡ []
+    no-log steps lane = ap (λ (x : World). logAt x lane) (stands steps) ∙ fresh-log present sources dests air lane
+
+    -- nothing happens
+    idle : Demand3 present sources dests w
+    idle = record {
+      logs = λ steps more lane. rw (no-log steps lane) (inOrder (sent w (steps ++ more)), refl);
+      list = λ steps. one-list w steps (rw (nothing-sent steps) tt);
+      agree = λ steps more a b. rw (no-log steps a) (inl (logAt (run w (steps ++ more)) b, refl));
+      rolls = λ steps n e. absurd (omega (arith, each-refused w bad roll .some, ap answerNumber (rw (stands steps) at e)));
+      refusals = λ steps s. rw (stands steps) (each-refused w bad s .number);
+      stays = λ steps s h. rw (stands steps) (each-refused w bad s .stays);
+      room = λ steps. rw (stands steps) (unfold freshYard in omega arith);
+      records = λ steps lane l. rw (stands steps) (fresh-records present sources dests small smallSources smallDests z lane l);
+      firsts = λ steps lane serial l a b.
+          absurd (omega (arith, ap (λ (p : Post). p .serial .0) (ap (λ (x : World). postAt (x .yard) lane) (stands steps) ∙ fresh-at present sources dests lane l)));
+    }
+
+pub agreement : Agreement
+agreement present sources dests air a b c z = go (same-or-not (length air) 65536)
+  where
+    go : (length air ≡ 65536) ⊎ (length air ≢ 65536) → Demand3 present sources dests (freshWorld present sources dests air)
+    go (inl whole) = holds present sources dests air a b c z whole
+    go (inr bad) = idle present sources dests air a b c z bad

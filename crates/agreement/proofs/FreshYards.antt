@@ -1,14 +1,14 @@
 -- A fresh yard that is not refused: its roles, its records, and how the model sees it. Assumes nothing.
-use mathlib.Core.Path.{_≡_, refl, sym, ap, _∙_, fun-ext}
+use mathlib.Core.Path.{_≡_, refl, sym, ap, _∙_}
 use mathlib.Core.List.{List, []}
-use mathlib.Core.Logic.{_⊎_, inl, inr, _≢_}
-use mathlib.Core.Bool.{Bool, true, false, cond, not, _&&_, _||_}
+use mathlib.Core.Logic.{_⊎_, inl, inr}
+use mathlib.Core.Bool.{true, false, cond, not, _&&_, _||_}
 use Prim.Native.Nat.{ℕ, zero, suc, _/_, _%_, _^_, _<_, _≤_}
 use native.Mathlib.Omega.{arith}
 use lib.Dec.{ltb, eqb}
 use lib.Count.{ones}
-use lib.ListN.{length, getD, length-replicate, List·getD-eq-default}
-use borrow.Author.Tests.{ltb-true, eqb-false, le-ltb}
+use lib.ListN.{length, length-replicate, List·getD-eq-default}
+use borrow.Author.Tests.{ltb-true, eqb-false}
 use Rattle.frame.specs.Lanes.{anyBelow}
 use Rattle.frame.proofs.Laws.{passed}
 use Rattle.cells.specs.Sets.{hasLane}

@@ -1,10 +1,8 @@
 -- A hearing in a yard, by each way that it can end: what it answers, and the yard and the air that it leaves. Assumes nothing.
-use mathlib.Core.Path.{_≡_, refl, sym, ap, _∙_}
+use mathlib.Core.Path.{_≡_}
 use mathlib.Core.Logic.{_≢_}
-use mathlib.Core.Bool.{true, false, cond, not, _&&_}
+use mathlib.Core.Bool.{true, false}
 use Prim.Native.Nat.{ℕ, _+_, _<_, _≤_}
-use native.Mathlib.Omega.{arith}
-use lib.Dec.{ltb, eqb}
 use lib.ListN.{length}
 use lib.Seq.{set-getD}
 use borrow.Author.Tests.{lt-ltb, le-ltb, eq-eqb, ne-eqb}
@@ -20,7 +18,6 @@ use Rattle.steps.specs.declared.HearAnswer as hearings
 use Rattle.yard.specs.Yards.{postAt}
 use Rattle.yard.specs.Singles.{framesAfter, frameAt, postHears, postHearsAir, withPost, yardHears, yardHearsAir}
 use Rattle.yard.specs.Worlds.{World, hear, single}
-use Rattle.yard.specs.declared.PostHeard.{PostHeard}
 use Rattle.laws.proofs.Broadcasts.{Sendable}
 use Rattle.agreement.proofs.AirViews.{silent-air, silent-frames, spoken-frames}
 

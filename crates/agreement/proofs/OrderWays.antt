@@ -1,11 +1,8 @@
 -- An order in a yard, by each way that it can end: what it answers, and the yard and the air that it leaves. Assumes nothing.
-use mathlib.Core.Path.{_≡_, refl, sym, ap, _∙_}
-use mathlib.Core.List.{List}
+use mathlib.Core.Path.{_≡_, refl, ap, _∙_}
 use mathlib.Core.Logic.{_≢_}
-use mathlib.Core.Bool.{cond, not}
 use Prim.Native.Nat.{ℕ, _+_, _<_, _≤_}
 use native.Mathlib.Omega.{arith}
-use lib.Dec.{ltb, eqb}
 use lib.ListN.{length, set}
 use lib.Seq.{set-getD}
 use borrow.Author.Tests.{lt-ltb, le-ltb, eq-eqb, ne-eqb}
@@ -14,15 +11,12 @@ use Rattle.air.specs.Air.{airWith}
 use Rattle.cells.specs.Tables.{orderPlace}
 use Rattle.post.specs.declared.Post.{Post}
 use Rattle.post.specs.Taking.{kept, ticked, ordered}
-use Rattle.deliver.specs.Delivery.{delivered}
 use Rattle.steps.specs.Refusals.{orderRefusal}
-use Rattle.steps.specs.Steps.{orderSent, orderStep}
+use Rattle.steps.specs.Steps.{orderStep}
 use Rattle.steps.specs.declared.OrderAnswer as orders
 use Rattle.yard.specs.Yards.{postAt}
 use Rattle.yard.specs.Singles.{postOrders, postOrdersAir, firstAfter, yardOrders, yardOrdersAir}
 use Rattle.yard.specs.Worlds.{World, order, single}
-use Rattle.yard.specs.declared.Yard.{Yard}
-use Rattle.yard.specs.declared.PostOrdered.{PostOrdered}
 use Rattle.laws.proofs.ValidLog.{delivered-log-only}
 use Rattle.laws.proofs.ValidSteps.{order-post}
 use Rattle.laws.proofs.Broadcasts.{Sendable}

@@ -1,20 +1,19 @@
 -- The roll call's list of single steps is the model's list, and S and N are counts of ones. Assumes nothing.
 use mathlib.Core.Path.{_≡_, refl, sym, ap, _∙_}
-use mathlib.Core.List.{List, [], _∷_, _++_}
 use mathlib.Core.Logic.{_⊎_, inl, inr}
-use mathlib.Core.Bool.{Bool, true, false, cond, not, _&&_}
+use mathlib.Core.Bool.{Bool, true, false, cond}
 use Prim.Native.Nat.{ℕ, zero, suc, _+_, _/_, _%_, _^_, _<_, _≤_}
 use native.Mathlib.Omega.{arith}
-use lib.Dec.{ltb, eqb}
+use lib.Dec.{eqb}
 use lib.Count.{ones, onesIn, ones-step}
 use borrow.Author.Tests.{eqb-true, eqb-false, lt-ltb}
 use Rattle.cells.specs.Sets.{hasLane}
 use Rattle.yard.specs.Yards.{postAt}
-use Rattle.yard.specs.Worlds.{World, Single, hear, beacon}
+use Rattle.yard.specs.Worlds.{World}
 use Rattle.roll.specs.RollCall.{laneHears, lanesHears, postsHear, beaconsSent, sourcesBelow, beaconsHeard, postsHearBeacons}
 use Rattle.laws.proofs.TestLaws.{below-or-not}
 use Rattle.model.proofs.Model as model
-use Rattle.agreement.proofs.Views.{rolesOf, placesView, yardView}
+use Rattle.agreement.proofs.Views.{rolesOf, yardView}
 use Rattle.agreement.proofs.ArrayViews.{places-in}
 
 -- ---- the first frames

@@ -1,9 +1,9 @@
 -- What the records, the tables and the bytes of a yard keep while it runs: lengths and ranges, roles, readable frames. Assumes nothing.
-use mathlib.Core.Path.{_≡_, refl, sym, ap, _∙_}
+use mathlib.Core.Path.{_≡_, refl, ap, _∙_}
 use mathlib.Core.List.{List}
 use mathlib.Core.Logic.{_⊎_, inl, inr, _≢_}
 use mathlib.Core.Bool.{Bool, true, false, cond}
-use Prim.Native.Nat.{ℕ, suc, _+_, _<_, _≤_, max}
+use Prim.Native.Nat.{ℕ, _+_, _<_, max}
 use native.Mathlib.Omega.{arith}
 use lib.ListN.{length, getD, set}
 use lib.Seq.{getD-set-same, getD-set-other}
@@ -20,7 +20,7 @@ use Rattle.steps.specs.Steps.{orderStep, hearStep}
 use Rattle.yard.specs.Yards.{noPost, postAt}
 use Rattle.yard.specs.Singles.{frameAt}
 use Rattle.yard.specs.Worlds.{World}
-use Rattle.laws.proofs.TestLaws.{same-or-not, below-or-not, true-or-false}
+use Rattle.laws.proofs.TestLaws.{same-or-not, true-or-false}
 use Rattle.laws.proofs.Valid.{Shaped, Valid}
 use Rattle.laws.proofs.ValidLog.{delivered-log-only}
 use Rattle.laws.proofs.ValidSteps.{heardPost, heard-taken, heard-other, order-post, order-refused, hear-post, hear-refused}

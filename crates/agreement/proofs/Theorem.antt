@@ -2,23 +2,20 @@
 use mathlib.Core.Path.{_≡_, refl, sym, ap, _∙_, subst}
 use mathlib.Core.List.{List, [], _∷_, _++_, append-nil}
 use mathlib.Core.Logic.{_⊎_, inl, inr, _≢_}
-use mathlib.Core.Bool.{Bool, true, false, cond, not}
-use Prim.Native.Nat.{ℕ, _+_, _*_, _-_, _<_, _≤_}
+use mathlib.Core.Bool.{not}
+use Prim.Native.Nat.{ℕ, _+_, _-_, _<_, _≤_}
 use native.Mathlib.Omega.{arith}
-use lib.Count.{ones}
 use lib.ListN.{length, getD}
 use borrow.Author.Tests.{eqb-true, eq-eqb, ne-eqb, not-false}
-use Rattle.cells.specs.Sets.{hasLane}
 use Rattle.cells.specs.Tables.{orderPlace}
 use Rattle.post.specs.declared.Post.{Post}
-use Rattle.judge.specs.Judgement.{badRecord}
 use Rattle.steps.specs.Refusals.{isOrder}
 use Rattle.yard.specs.Yards.{postAt, freshYard, yardRefusal}
 use Rattle.yard.specs.Singles.{frameAt}
 use Rattle.yard.specs.Worlds.{World}
 use Rattle.roll.specs.declared.RollAnswer as calling
 use Rattle.roll.specs.RollCall.{rollSteps, rollRefusal, rollCall}
-use Rattle.roll.specs.Runs.{Step, roll, Answer, ordered, heard, beaconed, called, answer, step, run, Order, sent}
+use Rattle.roll.specs.Runs.{Step, roll, Answer, ordered, heard, beaconed, called, answer, run, sent}
 use Rattle.roll.specs.Logs.{logAt, inOrder}
 use Rattle.laws.proofs.TestLaws.{same-or-not}
 use Rattle.laws.proofs.ListLaws.{Begins}
@@ -28,15 +25,15 @@ use Rattle.model.proofs.Invariants.{RolesOk}
 use Rattle.model.proofs.OrderLists.{Apart, mem-in-order, in-order-mem, in-order-rises}
 use Rattle.model.proofs.Air.{First, IsOf, frames-bound}
 use Rattle.model.proofs.Moves as moving
-use Rattle.agreement.specs.YardRefusals.{answerNumber, stepRefusal}
+use Rattle.agreement.specs.YardRefusals.{answerNumber}
 use Rattle.agreement.specs.Demand3.{freshWorld, OneList, RollCalled, FirstFrame, Demand3, Agreement}
 use Rattle.agreement.proofs.Views.{rolesOf, placesView, frameView, airView, yardView}
 use Rattle.agreement.proofs.ArrayViews.{places-in}
 use Rattle.agreement.proofs.Sound.{Sound}
 use Rattle.agreement.proofs.RollViews.{count-sources, count-posts}
-use Rattle.agreement.proofs.SinglesSimulate.{air-at}
-use Rattle.agreement.proofs.RunSimulation.{roll-same}
-use Rattle.agreement.proofs.StepSimulation.{Keeps, fits, next, StepSimulates, step-simulates, roll-number, RunSimulates, run-simulates}
+use Rattle.agreement.proofs.HearSimulates.{air-at}
+use Rattle.agreement.proofs.ListSimulates.{roll-same}
+use Rattle.agreement.proofs.RunSimulates.{Keeps, fits, next, StepSimulates, step-simulates, roll-number, RunSimulates, run-simulates}
 use Rattle.agreement.proofs.FreshYards.{fresh-at, fresh-view, fresh-log, roles-ok, fresh-sound, fresh-records, some-ones}
 use Rattle.agreement.proofs.WrongAir.{Refused, each-refused, never-runs, never-sends}
 use Rattle.agreement.proofs.Beginnings.{begin-each-other, length-in-order, rising}

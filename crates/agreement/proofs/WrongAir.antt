@@ -1,19 +1,19 @@
 -- With an air of any other length than 65,536 bytes every step is refused, and nothing ever changes. Assumes nothing.
-use mathlib.Core.Path.{_≡_, refl, sym, ap, _∙_}
+use mathlib.Core.Path.{_≡_, refl, ap, _∙_}
 use mathlib.Core.List.{List, [], _∷_}
 use mathlib.Core.Logic.{_⊎_, inl, inr, _≢_}
 use Prim.Native.Nat.{ℕ, _<_, _≤_}
 use native.Mathlib.Omega.{arith}
 use lib.ListN.{length}
 use borrow.Author.Tests.{lt-ltb, le-ltb, ne-eqb}
-use Rattle.yard.specs.Worlds.{World, Single, order, hear, beacon, single}
+use Rattle.yard.specs.Worlds.{World, order, hear, beacon}
 use Rattle.roll.specs.RollCall.{rollRefusal, rollCall, rollCallAir}
 use Rattle.roll.specs.Runs.{Step, one, roll, answer, step, run, orderSentBy, sentBy, sent}
 use Rattle.laws.proofs.TestLaws.{below-or-not}
 use Rattle.agreement.specs.YardRefusals.{answerNumber, orderYardRefusal, hearYardRefusal, beaconYardRefusal, stepRefusal}
-use Rattle.agreement.proofs.OrderWays.{OrderStays, order-4, order-5, order-13}
-use Rattle.agreement.proofs.HearWays.{HearStays, hear-4, hear-13}
-use Rattle.agreement.proofs.BeaconWays.{BeaconStays, beacon-4, beacon-13}
+use Rattle.agreement.proofs.OrderWays.{order-4, order-5, order-13}
+use Rattle.agreement.proofs.HearWays.{hear-4, hear-13}
+use Rattle.agreement.proofs.BeaconWays.{beacon-4, beacon-13}
 
 -- a step that is refused for the yard's own reason, and changes nothing
 pub record Refused (w : World) (s : Step) : Type 0 where

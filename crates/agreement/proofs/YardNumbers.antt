@@ -1,30 +1,26 @@
 -- Of the post's own refusals a yard meets 21, 22, 23 and 26 alone: 24 and 28 to 30 never arise in it. Assumes nothing.
-use mathlib.Core.Path.{_≡_, refl, sym, ap, _∙_}
+use mathlib.Core.Path.{_≡_, ap, _∙_}
 use mathlib.Core.Logic.{_⊎_, inl, inr, _≢_}
 use mathlib.Core.Bool.{Bool, true, false, cond, not, _&&_}
-use Prim.Native.Nat.{ℕ, suc, _+_, _<_, _≤_, max}
+use Prim.Native.Nat.{ℕ, suc, _<_, _≤_, max}
 use native.Mathlib.Omega.{arith}
 use native.Mathlib.Numerals.{add-one}
-use lib.Dec.{ltb, leb, eqb}
-use lib.ListN.{getD}
-use mathlib.Core.List.{List}
-use borrow.Author.Tests.{lt-ltb, lt-leb, eq-eqb, ne-eqb, eqb-true, eqb-false}
+use lib.Dec.{leb, eqb}
+use borrow.Author.Tests.{lt-leb, eq-eqb, ne-eqb}
 use Rattle.frame.specs.declared.Frame as frames
 use Rattle.frame.specs.Layout.{entryOf}
 use Rattle.cells.specs.Sets.{hasLane}
-use Rattle.cells.specs.Tables.{orderPlace}
 use Rattle.post.specs.declared.Post as posts
-use Rattle.post.specs.Record.{isPost, isSource, lastOf}
-use Rattle.steps.specs.Refusals.{orderRefusalBy, orderRefusal, isOrder, isNext, clockPasses, hearRefusalBy, hearRefusal}
+use Rattle.post.specs.Record.{lastOf}
+use Rattle.steps.specs.Refusals.{orderRefusalBy, orderRefusal, isNext, clockPasses, hearRefusalBy, hearRefusal}
 use Rattle.yard.specs.Yards.{postAt}
 use Rattle.yard.specs.Worlds.{World}
 use Rattle.laws.proofs.TestLaws.{same-or-not, true-or-false, and-parts, and-fails}
-use Rattle.laws.proofs.Valid.{Shaped, Valid}
 use Rattle.laws.proofs.Hearable.{lastStamp, next-is, Hearable, hear-not-refused}
 use Rattle.laws.proofs.Broadcasts.{Sendable}
-use Rattle.model.proofs.Model.{Frame, Roles, Yard}
+use Rattle.model.proofs.Model.{Frame}
 use Rattle.model.proofs.Invariants.{Posts, stampOf, Sent, FrameOk, YardOk, sends-source}
-use Rattle.agreement.proofs.Views.{rolesOf, placesView, postView, frameView, yardView}
+use Rattle.agreement.proofs.Views.{rolesOf, frameView, yardView}
 use Rattle.agreement.proofs.ArrayViews.{places-in}
 use Rattle.agreement.proofs.Sound.{InYard, Sound}
 

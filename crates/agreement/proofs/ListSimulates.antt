@@ -1,15 +1,14 @@
 -- Lists of single steps, and the roll call's own list, do what the model's do, as long as the model keeps an invariant. Assumes nothing.
 use mathlib.Core.Path.{_≡_, refl, sym, ap, _∙_, subst}
-use mathlib.Core.List.{List, [], _∷_, _++_}
+use mathlib.Core.List.{List, [], _∷_}
 use Prim.Native.Nat.{ℕ, _≤_}
-use native.Mathlib.Omega.{arith}
 use Rattle.yard.specs.Yards.{postAt}
 use Rattle.yard.specs.Worlds.{World, Single, single, singles}
-use Rattle.roll.specs.RollCall.{postsHear, beaconsSent, postsHearBeacons, rollSteps}
+use Rattle.roll.specs.RollCall.{postsHear, rollSteps}
 use Rattle.model.proofs.Model as model
 use Rattle.agreement.proofs.Views.{rolesOf, yardView}
 use Rattle.agreement.proofs.Sound.{Sound}
-use Rattle.agreement.proofs.Simulation.{Fit, Simulates}
+use Rattle.agreement.proofs.Simulates.{Fit, Simulates}
 use Rattle.agreement.proofs.EachSingle.{single-simulates}
 use Rattle.agreement.proofs.RollViews.{posts-same, beacons-same, posts-heard-same}
 

@@ -2,13 +2,11 @@
 use mathlib.Core.Path.{_≡_, refl, sym, ap, _∙_, subst}
 use mathlib.Core.List.{List, [], _∷_, _++_}
 use mathlib.Core.Logic.{_⊎_, inl, inr, _≢_}
-use mathlib.Core.Bool.{cond}
 use Prim.Native.Nat.{ℕ, _-_, _<_}
 use native.Mathlib.Omega.{arith}
-use lib.Dec.{ltb, eqb}
 use lib.ListN.{length}
 use borrow.Author.Tests.{eq-eqb, ne-eqb}
-use Rattle.yard.specs.Worlds.{World, Single, single, singles}
+use Rattle.yard.specs.Worlds.{World, Single, singles}
 use Rattle.roll.specs.RollCall.{rollSteps, rollRefusal, rollCall, rollCallAir}
 use Rattle.roll.specs.Runs.{Step, one, roll, answer, step, run, Order, sentBy, sent}
 use Rattle.laws.proofs.TestLaws.{same-or-not}
@@ -19,9 +17,9 @@ use Rattle.model.proofs.Moves.{rollRefused, move, sentIn, moves, allSent, Good,
 use Rattle.agreement.specs.YardRefusals.{answerNumber, stepRefusal}
 use Rattle.agreement.proofs.Views.{rolesOf, yardView}
 use Rattle.agreement.proofs.Sound.{Sound}
-use Rattle.agreement.proofs.Simulation.{Fit, Simulates}
+use Rattle.agreement.proofs.Simulates.{Fit, Simulates}
 use Rattle.agreement.proofs.RollViews.{count-sources}
-use Rattle.agreement.proofs.RunSimulation.{one-simulates, ListSimulates, list-simulates, roll-same}
+use Rattle.agreement.proofs.ListSimulates.{one-simulates, ListSimulates, list-simulates, roll-same}
 
 module _ (present sources dests : ℕ) (small : sources < 256) (ro : RolesOk (rolesOf present sources dests)) where
   abbrev R : model.Roles

@@ -21,7 +21,7 @@ use Rattle.laws.proofs.ValidLog.{delivered-log-only, delivered-log}
 use Rattle.model.proofs.Model.{Post, Roles, orderOf, takenBelow, has, ready, due, newLog, deliver}
 use Rattle.model.proofs.OrderLists.{Rising, Apart, in-order-rises, in-order-mem, mem-in-order, unique}
 use Rattle.model.proofs.Invariants.{TakenIn}
-use Rattle.model.proofs.Taken.{Climbs, climb, mem-those, apart-those, apart-taken, has-mem, mem-taken}
+use Rattle.model.proofs.Taken.{KeptRise, kept-rise, mem-those, apart-those, apart-taken, has-mem, mem-taken}
 use Rattle.model.proofs.Delivery.{ready-le, le-ready, due-taken, due-ready, due-new}
 use Rattle.agreement.proofs.Views.{postView, tableView, placesView}
 use Rattle.agreement.proofs.ArrayViews.{table-in, places-in}
@@ -75,7 +75,7 @@ map-append f (x ∷ s) t = ap (λ (l : List Order). f x ∷ l) (map-append f s t
 -- ---- the due orders rise
 
 -- of two taken orders the one with the lower key ranks lower: equal stamps are of different lanes
-rank-rises : (q : posts.Post) → Climbs (postView q) → (x y : ℕ) → x < 128 → y < 128 → isTaken q y ≡ true → keyAt q x < keyAt q y
+rank-rises : (q : posts.Post) → KeptRise (postView q) → (x y : ℕ) → x < 128 → y < 128 → isTaken q y ≡ true → keyAt q x < keyAt q y
     → rank (orderAt q x) < rank (orderAt q y)
 rank-rises q c x y a b t h = go (same-or-not (x / 16) (y / 16)) (below-or-not (x % 16) (y % 16))
   where
@@ -84,14 +84,14 @@ rank-rises q c x y a b t h = go (same-or-not (x / 16) (y / 16)) (below-or-not (x
 
     go : (x / 16 ≡ y / 16) ⊎ (x / 16 ≢ y / 16) → (x % 16 < y % 16) ⊎ (y % 16 ≤ x % 16) → rank (orderAt q x) < rank (orderAt q y)
     go (inl e) (inl l) =
-        let up = climb (postView q) c (y / 16) (x % 16 + 1) (y % 16 + 1) (omega arith) (omega arith) (omega (arith, last)) in
+        let up = kept-rise (postView q) c (y / 16) (x % 16 + 1) (y % 16 + 1) (omega arith) (omega arith) (omega (arith, last)) in
         let s : stampAt q x < stampAt q y = rw (place-view (q .stamps) x, place-view (q .stamps) y, e) up in
         omega arith
     go (inl e) (inr l) = omega arith
     go (inr e) l = omega arith
 
 -- so the orders made from places with rising keys rise
-orders-rise : (q : posts.Post) → Climbs (postView q) → (l : List ℕ) → RisingBy (keyAt q) l
+orders-rise : (q : posts.Post) → KeptRise (postView q) → (l : List ℕ) → RisingBy (keyAt q) l
     → ((place : ℕ) → Mem place l → (place < 128) × (isTaken q place ≡ true))
     → Rising (map (orderAt q) l)
 orders-rise q c [] r h = tt
@@ -117,7 +117,7 @@ mem-due R P i n a b c r h =
     (and-made (ready R P (P .stamps i n)) (not (has i n (P .log))) r (ap not h))
 
 -- no two of them rank alike
-due-apart : (R : Roles) (P : Post) → Climbs P → Apart (due R P)
+due-apart : (R : Roles) (P : Post) → KeptRise P → Apart (due R P)
 unfolding due
 due-apart R P c = apart-those (passes R P) (takenBelow P 8) (apart-taken P c 8 (omega arith))
 
@@ -192,7 +192,7 @@ module _ (q : posts.Post) (s : Shaped q) (v : Valid q) (R : Roles) (sources : (i
       new (inr e) = e
 
   -- so the two lists of due orders are one
-  pub due-orders : Climbs (postView q) → map (orderAt q) (duePlaces q) ≡ inOrder (due R (postView q))
+  pub due-orders : KeptRise (postView q) → map (orderAt q) (duePlaces q) ≡ inOrder (due R (postView q))
   due-orders c =
       unique (map (orderAt q) (duePlaces q)) (inOrder (due R (postView q)))
       (orders-rise q c (duePlaces q) (places-rise q) (λ place m. let d = places-due q place m in (d .0, is-due q place (d .1) .taken)))
@@ -206,7 +206,7 @@ module _ (q : posts.Post) (s : Shaped q) (v : Valid q) (R : Roles) (sources : (i
   -- ---- the delivery
 
   -- the log after it
-  log-delivered : R .dest (q .lane) ≡ isDest q (q .lane) → Climbs (postView q)
+  log-delivered : R .dest (q .lane) ≡ isDest q (q .lane) → KeptRise (postView q)
       → map (orderAt q) (logOf (delivered q .post)) ≡ newLog R (q .lane) (postView q)
   unfolding newLog
   log-delivered d c = rw (d, delivered-log q s v) (go (isDest q (q .lane)))
@@ -216,7 +216,7 @@ module _ (q : posts.Post) (s : Shaped q) (v : Valid q) (R : Roles) (sources : (i
       go false = ap (map (orderAt q)) (append-nil (logOf q))
 
   -- a delivery is the model's
-  pub view-delivered : R .dest (q .lane) ≡ isDest q (q .lane) → Climbs (postView q)
+  pub view-delivered : R .dest (q .lane) ≡ isDest q (q .lane) → KeptRise (postView q)
       → postView (delivered q .post) ≡ deliver R (q .lane) (postView q)
   view-delivered d c = ap postView (delivered-log-only q) ∙ λ t. record {
     clock = q .clock .0;

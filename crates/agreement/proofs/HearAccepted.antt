@@ -20,14 +20,14 @@ use Rattle.laws.proofs.Broadcasts.{Sendable, hear-frame, hear-sendable}
 use Rattle.model.proofs.Functions.{upd, upd-same}
 use Rattle.model.proofs.Model as model
 use Rattle.model.proofs.Invariants.{YardOk}
-use Rattle.model.proofs.Taken.{Climbs}
+use Rattle.model.proofs.Taken.{KeptRise}
 use Rattle.agreement.proofs.Views.{rolesOf, placesView, postView, frameView, airView, yardView}
 use Rattle.agreement.proofs.PostViews.{view-raised, view-taken, view-takes}
 use Rattle.agreement.proofs.FrameViews.{view-order-frame}
 use Rattle.agreement.proofs.AirViews.{air-spoken}
 use Rattle.agreement.proofs.Sound.{heard-roles, on-air-more, InYard, Sound, hear-in-yard, posts-in-yard}
 use Rattle.agreement.proofs.HearWays.{Hearing, hear-silent, hear-spoken, hear-no-frame}
-use Rattle.agreement.proofs.OrderAccepted.{posts-view, delivers, climbs-before}
+use Rattle.agreement.proofs.OrderAccepted.{posts-view, delivers, rose-before}
 
 -- the model's hearing, by whether the order is taken
 pub hearing-takes : (R : model.Roles) (Y : model.Yard) (p : ℕ) (F : model.Frame) → model.takes (model.raised (Y .posts p) F) F ≡ true
@@ -77,9 +77,9 @@ module _ (present sources dests : ℕ) where
         }
 
     -- the post after a hearing, where the model's post just before delivery is Q
-    view-post : (Q : model.Post) → postView (heardPost p f) ≡ Q → Climbs Q → postView (hearStep p f .post) ≡ model.deliver R lane Q
+    view-post : (Q : model.Post) → postView (heardPost p f) ≡ Q → KeptRise Q → postView (hearStep p f .post) ≡ model.deliver R lane Q
     view-post Q e c =
-        ap postView (hear-post p f z) ∙ delivers present sources dests lane (heardPost p f) q-in-yard (subst Climbs (sym e) c) ∙ ap (model.deliver R lane) e
+        ap postView (hear-post p f z) ∙ delivers present sources dests lane (heardPost p f) q-in-yard (subst KeptRise (sym e) c) ∙ ap (model.deliver R lane) e
 
     -- ---- nothing is taken
 
@@ -91,7 +91,7 @@ module _ (present sources dests : ℕ) where
       view-calm =
           view-post (model.raised (postView p) F)
           (ap postView (heard-other p f n) ∙ view-raised p f (inYard .shaped) (can-hear .good) (can-hear .fits))
-          (climbs-before present sources dests
+          (rose-before present sources dests
           (model.silent (yardView w) lane (model.deliver R lane (model.raised (postView p) F))) lane (model.raised (postView p) F)
           (subst (YardOk R) calm after)
           (upd-same (yardView w .posts) lane (model.deliver R lane (model.raised (postView p) F))))
@@ -142,7 +142,7 @@ module _ (present sources dests : ℕ) where
       view-took : postView (hearStep p f .post) ≡ model.deliver R lane Q
       view-took =
           view-post Q (ap postView (heard-taken p f n) ∙ view-q)
-          (climbs-before present sources dests
+          (rose-before present sources dests
           (model.spoken (yardView w) lane (model.deliver R lane Q) (model.entriesFrame false lane (F .carried) Q)) lane Q
           (subst (YardOk R) took after)
           (upd-same (yardView w .posts) lane (model.deliver R lane Q)))

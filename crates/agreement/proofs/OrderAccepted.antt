@@ -26,8 +26,8 @@ use Rattle.laws.proofs.Broadcasts.{Sendable, order-frame, order-sendable}
 use Rattle.model.proofs.Functions.{upd, upd2, upd-same, upd-other, upd2-same}
 use Rattle.model.proofs.Model as model
 use Rattle.model.proofs.Invariants.{YardOk}
-use Rattle.model.proofs.Taken.{Climbs}
-use Rattle.model.proofs.Delivery.{climbs}
+use Rattle.model.proofs.Taken.{KeptRise}
+use Rattle.model.proofs.Delivery.{known-rise}
 use Rattle.agreement.proofs.Views.{rolesOf, placesView, postView, frameView, yardView}
 use Rattle.agreement.proofs.ArrayViews.{places-set}
 use Rattle.agreement.proofs.PostViews.{view-ordered}
@@ -62,7 +62,7 @@ module _ (present sources dests : ℕ) where
   R = rolesOf present sources dests
 
   -- a record of the yard delivers as the model's post does
-  pub delivers : (lane : ℕ) (q : posts.Post) → InYard present sources dests lane q → Climbs (postView q)
+  pub delivers : (lane : ℕ) (q : posts.Post) → InYard present sources dests lane q → KeptRise (postView q)
       → postView (delivered q .post) ≡ model.deliver R lane (postView q)
   delivers lane q i c =
       view-delivered q (i .shaped) (i .valid) R
@@ -72,9 +72,9 @@ module _ (present sources dests : ℕ) where
       ∙ ap (λ (j : ℕ). model.deliver R j (postView q)) (i .itsLane)
 
   -- stamps rise in a post that has delivered, so they rose before
-  pub climbs-before : (Y : model.Yard) (lane : ℕ) (Q : model.Post) → YardOk R Y → Y .posts lane ≡ model.deliver R lane Q → Climbs Q
-  climbs-before Y lane Q y e =
-      let c : Climbs (model.deliver R lane Q) = rw e at (climbs R (Y .posts) (Y .posts lane) (y .postsOk lane .knows) (y .selves)) in c
+  pub rose-before : (Y : model.Yard) (lane : ℕ) (Q : model.Post) → YardOk R Y → Y .posts lane ≡ model.deliver R lane Q → KeptRise Q
+  rose-before Y lane Q y e =
+      let c : KeptRise (model.deliver R lane Q) = rw e at (known-rise R (Y .posts) (Y .posts lane) (y .postsOk lane .knows) (y .selves)) in c
 
   module _ (w : World) (s : Sound present sources dests w) (lane word : ℕ) (here : lane < 8) (small : word ≤ 65535)
       (z : orderRefusal (postAt (w .yard) lane) ≡ 0) (room : w .yard .frames < 2048)
@@ -112,10 +112,10 @@ module _ (present sources dests : ℕ) where
           valid = ordered-valid p word z (inYard .shaped) (inYard .valid);
         }
 
-    rises : Climbs (postView q)
+    rises : KeptRise (postView q)
     rises =
-        subst Climbs (sym view-q)
-        (climbs-before (model.orderDone R (yardView w) lane word) lane (model.ordered lane word (postView p)) after
+        subst KeptRise (sym view-q)
+        (rose-before (model.orderDone R (yardView w) lane word) lane (model.ordered lane word (postView p)) after
         (upd-same (yardView w .posts) lane (model.deliver R lane (model.ordered lane word (postView p)))))
 
     -- the post after it

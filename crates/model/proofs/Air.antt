@@ -8,11 +8,12 @@ use native.Mathlib.Omega.{arith}
 use Rattle.yard.specs.Worlds.{Single, order, hear, beacon}
 use Rattle.roll.specs.Runs.{Order}
 use Rattle.model.proofs.Functions.{upd, upd-same, upd-other, upd-case, upd2-case, sumBelow, sum-same, sum-more, sum-bound}
-use Rattle.model.proofs.Model.{Frame, Post, Roles, Yard, orderOf, deliver, entriesFrame, noOrder, ordered, raised, hearRefused, orderDone, beaconDone, hearDone, step, run, freshPost, fresh}
+use Rattle.model.proofs.Model.{Frame, Post, Roles, Yard, orderOf, deliver, entriesFrame, noOrder, ordered, raised, hearRefused, orderDone}
+use Rattle.model.proofs.Model.{beaconDone, hearDone, step, run, freshPost, fresh}
 use Rattle.model.proofs.Invariants.{RolesOk, source-below, Posts, Sent, FrameOk, YardOk, sends-source}
 use Rattle.model.proofs.Changes.{older-frames}
-use Rattle.model.proofs.Hearing.{postTaking, yardTaking, yardRaised, IsNext, hear-ways}
-use Rattle.model.proofs.Steps.{order-pass, hear-pass, beacon-pass, order-ways, hearing-ways, beacon-ways, step-ok}
+use Rattle.model.proofs.Hearing.{postTaking, yardTaking, yardHearing, IsNext, taken-or-not}
+use Rattle.model.proofs.Steps.{order-pass, hear-pass, beacon-pass, order-or-refused, hear-or-refused, beacon-or-refused, step-ok}
 
 -- how many orders were taken, all posts and lanes together
 unfoldable pub total : Posts → ℕ
@@ -78,10 +79,11 @@ total-bound R Y y = omega (arith, sum-bound (λ p. sumBelow 8 (Y .posts p .last)
 pub frames-bound : (R : Roles) (Y : Yard) → YardOk R Y → AirOk Y → Y .frames ≤ 2048
 frames-bound R Y y a = omega (arith, a .framesCount, a .beaconsAtMost, total-bound R Y y)
 
--- and no clock or stamp above 1,024
+-- no clock is above 1,024
 pub clock-bound : (R : Roles) (Y : Yard) → YardOk R Y → AirOk Y → (i : ℕ) → Y .posts i .clock ≤ 1024
 clock-bound R Y y a i = omega (arith, a .clocksUnder i, total-bound R Y y)
 
+-- nor any stamp of an order
 pub stamp-bound : (R : Roles) (Y : Yard) → YardOk R Y → AirOk Y → (o : Order) → Sent (Y .posts) o → o .stamp ≤ 1024
 stamp-bound R Y y a o s =
     omega (arith, s .stampIs, y .selves (o .lane) .stampsUnderClock (o .serial) (s .fromOne) (s .wasSent), clock-bound R Y y a (o .lane))
@@ -185,8 +187,8 @@ taking-air R ro Y p f l fo next y a = record {
     clock false = omega (arith, more, a .clocksUnder p)
 
 -- hear, only the entries
-raised-air : (R : Roles) (Y : Yard) (p : ℕ) (f : Frame) → AirOk Y → AirOk (yardRaised R Y p f)
-raised-air R Y p f a = record {
+hearing-air : (R : Roles) (Y : Yard) (p : ℕ) (f : Frame) → AirOk Y → AirOk (yardHearing R Y p f)
+hearing-air R Y p f a = record {
   framesCount = omega (arith, same, a .framesCount);
   clocksUnder = λ i. upd-case (λ Z. Z .clock ≤ total X) (Y .posts) p D i
       (λ q. omega (arith, same, a .clocksUnder p)) (λ q. omega (arith, same, a .clocksUnder i));
@@ -216,14 +218,14 @@ beacon-air R Y p l a = record {
 module _ (R : Roles) (ro : RolesOk R) where
   -- a step, refused or not
   pub step-air : (Y : Yard) (s : Single) → YardOk R Y → AirOk Y → AirOk (step R Y s)
-  step-air Y (order p w) y a = order-ways R Y AirOk p w (λ e. order-air R Y p w (order-pass R Y p w e .0) y a) a
-  step-air Y (hear p k) y a = hearing-ways R Y AirOk p k heard a
+  step-air Y (order p w) y a = order-or-refused R Y AirOk p w (λ e. order-air R Y p w (order-pass R Y p w e .0) y a) a
+  step-air Y (hear p k) y a = hear-or-refused R Y AirOk p k heard a
     where
       heard : hearRefused R Y p k ≡ 0 → AirOk (hearDone R Y p (Y .air k))
       heard e = let q = hear-pass R Y p k e in
-          hear-ways AirOk R Y p (Y .air k)
-          (λ n. taking-air R ro Y p (Y .air k) (q .0) (y .framesOk k (q .2)) n y a) (λ n. raised-air R Y p (Y .air k) a)
-  step-air Y (beacon p) y a = beacon-ways R Y AirOk p (λ e. beacon-air R Y p (beacon-pass R Y p e .2) a) a
+          taken-or-not AirOk R Y p (Y .air k)
+          (λ n. taking-air R ro Y p (Y .air k) (q .0) (y .framesOk k (q .2)) n y a) (λ n. hearing-air R Y p (Y .air k) a)
+  step-air Y (beacon p) y a = beacon-or-refused R Y AirOk p (λ e. beacon-air R Y p (beacon-pass R Y p e .2) a) a
 
   -- a list of them
   pub run-air : (Y : Yard) (l : List Single) → YardOk R Y → AirOk Y → AirOk (run R Y l)

@@ -10,11 +10,12 @@ use borrow.Author.Tests.{ne-eqb}
 use Rattle.laws.proofs.TestLaws.{same-or-not, not-both}
 use Rattle.yard.specs.Worlds.{Single, hear}
 use Rattle.model.proofs.Functions.{le-or-not, upd, upd-same, upd-case}
-use Rattle.model.proofs.Model.{Frame, Post, Roles, Yard, deliver, raise, raised, hearRefused, hearDone, step, run, sourcesBelow, beaconsHeard, postsHearBeacons}
+use Rattle.model.proofs.Model.{Frame, Post, Roles, Yard, deliver, raise, raised, hearRefused, hearDone, step, run, sourcesBelow, beaconsHeard}
+use Rattle.model.proofs.Model.{postsHearBeacons}
 use Rattle.model.proofs.Invariants.{RolesOk, source-below, YardOk}
 use Rattle.model.proofs.Entries.{raise-reach, raise-up, OwnBeacon}
-use Rattle.model.proofs.Hearing.{yardRaised, hear-ways}
-use Rattle.model.proofs.Steps.{hear-fine, hearing-ways, step-hear, step-ok, run-append, run-none, run-one}
+use Rattle.model.proofs.Hearing.{yardHearing, taken-or-not}
+use Rattle.model.proofs.Steps.{hear-fine, hear-or-refused, step-hear, step-ok, run-append, run-none, run-one}
 use Rattle.model.proofs.Air.{AirOk, step-air}
 use Rattle.model.proofs.RollBeacons.{sources-le, sources-suc, Beaconed}
 
@@ -60,8 +61,8 @@ module _ (R : Roles) (ro : RolesOk R) where
   }
 
   -- of a beacon only the entries are heard
-  hear-beacon : (X : Yard) (p : ℕ) (f : Frame) → f .beacon ≡ true → hearDone R X p f ≡ yardRaised R X p f
-  hear-beacon X p f b = hear-ways (λ Z. Z ≡ yardRaised R X p f) R X p f (λ n. absurd (not-both (f .beacon) b (n .0))) (λ n. refl)
+  hear-beacon : (X : Yard) (p : ℕ) (f : Frame) → f .beacon ≡ true → hearDone R X p f ≡ yardHearing R X p f
+  hear-beacon X p f b = taken-or-not (λ Z. Z ≡ yardHearing R X p f) R X p f (λ n. absurd (not-both (f .beacon) b (n .0))) (λ n. refl)
 
   -- one hearing of a beacon, refused or not
   only-step : (X : Yard) (p k : ℕ) → X .air k .beacon ≡ true → YardOk R X → AirOk X → OnlyBeacons R X (step R X (hear p k))
@@ -75,8 +76,8 @@ module _ (R : Roles) (ro : RolesOk R) where
     sameOwn = λ q. each (λ Z. Z .posts q .own ≡ X .posts q .own) (post q (λ Z. Z .own ≡ X .posts q .own) (λ e. rw e refl) refl) refl;
     sameClock = λ q. each (λ Z. Z .posts q .clock ≡ X .posts q .clock) (post q (λ Z. Z .clock ≡ X .posts q .clock) (λ e. rw e refl) refl) refl;
     entriesUp = λ q i n. each (λ Z. X .posts q .table i n ≤ Z .posts q .table i n)
-        (post q (λ Z. X .posts q .table i n ≤ Z .table i n) (λ e. rw e (raise-up (X .posts p .table) (f .entrySerial) (f .entryStamp) i n)) (omega arith))
-        (omega arith);
+        (post q (λ Z. X .posts q .table i n ≤ Z .table i n)
+        (λ e. rw e (raise-up (X .posts p .table) (f .entrySerial) (f .entryStamp) i n)) (omega arith)) (omega arith);
   }
     where
       f : Frame
@@ -85,27 +86,31 @@ module _ (R : Roles) (ro : RolesOk R) where
       D : Post
       D = deliver R p (raised (X .posts p) f)
 
-      each : (C : Yard → Type 0) → C (yardRaised R X p f) → C X → C (step R X (hear p k))
-      each C g h = hearing-ways R X C p k (λ e. rw (hear-beacon X p f b) g) h
+      each : (C : Yard → Type 0) → C (yardHearing R X p f) → C X → C (step R X (hear p k))
+      each C g h = hear-or-refused R X C p k (λ e. rw (hear-beacon X p f b) g) h
 
       post : (q : ℕ) (C : Post → Type 0) → (q ≡ p → C D) → C (X .posts q) → C (upd (X .posts) p D q)
       post q C g h = upd-case C (X .posts) p D q g (λ n. h)
 
   -- ---- how the lists run
 
+  -- the hearings of no beacon
   heard-zero : (X : Yard) (c p : ℕ) → run R X (beaconsHeard R c p 0) ≡ X
   unfolding beaconsHeard run
   heard-zero X c p = refl
 
+  -- of one source more
   heard-suc : (X : Yard) (c p i : ℕ) → run R X (beaconsHeard R c p (suc i))
       ≡ run R (run R X (beaconsHeard R c p i)) (cond (R .source i && not (eqb i p)) (hear p (c + sourcesBelow R i) ∷ []) [])
   unfolding beaconsHeard
   heard-suc X c p i = run-append R X (beaconsHeard R c p i) (cond (R .source i && not (eqb i p)) (hear p (c + sourcesBelow R i) ∷ []) [])
 
+  -- by no post
   posts-zero : (X : Yard) (c : ℕ) → run R X (postsHearBeacons R c 0) ≡ X
   unfolding postsHearBeacons run
   posts-zero X c = refl
 
+  -- by one post more
   posts-suc : (X : Yard) (c p : ℕ)
       → run R X (postsHearBeacons R c (suc p)) ≡ run R (run R X (postsHearBeacons R c p)) (cond (R .present p) (beaconsHeard R c p 8) [])
   unfolding postsHearBeacons
@@ -118,6 +123,7 @@ module _ (R : Roles) (ro : RolesOk R) where
     there : (X : Yard) → OnlyBeacons R Z X → (i : ℕ) → R .source i ≡ true → OwnBeacon (Y .posts) i (X .air (Y .frames + sourcesBelow R i))
     there X t i b = rw (t .sameAir) (h .beaconAt i (source-below R ro i b) b)
 
+    -- it is on the air
     on-air : (X : Yard) → OnlyBeacons R Z X → (i : ℕ) → R .source i ≡ true → Y .frames + sourcesBelow R i < X .frames
     on-air X t i b = omega (arith, t .sameFrames, h .framesThen, sources-suc R i b, sources-le R (suc i) 8 (source-below R ro i b))
 
@@ -134,10 +140,11 @@ module _ (R : Roles) (ro : RolesOk R) where
         go true false e = rw (run-none R X) (only-itself X (t .thenOk) (t .thenAir))
         go false b e = rw (run-none R X) (only-itself X (t .thenOk) (t .thenAir))
 
-    -- those of post p, of the sources below k
+    -- those of post p, of no source
     post-only-zero : (X : Yard) → OnlyBeacons R Z X → (p : ℕ) → OnlyBeacons R X (run R X (beaconsHeard R (Y .frames) p 0))
     post-only-zero X t p = rw (heard-zero X (Y .frames) p) (only-itself X (t .thenOk) (t .thenAir))
 
+    -- of one source more
     post-only-suc : (X : Yard) → OnlyBeacons R Z X → (p i : ℕ) → OnlyBeacons R X (run R X (beaconsHeard R (Y .frames) p i))
         → OnlyBeacons R X (run R X (beaconsHeard R (Y .frames) p (suc i)))
     post-only-suc X t p i s = rw (heard-suc X (Y .frames) p i) (only-on X W (run R W L) s (next-only W (only-on Z X W t s) p i))
@@ -148,6 +155,7 @@ module _ (R : Roles) (ro : RolesOk R) where
         L : List Single
         L = cond (R .source i && not (eqb i p)) (hear p (Y .frames + sourcesBelow R i) ∷ []) []
 
+    -- of the sources below k
     post-only : (X : Yard) → OnlyBeacons R Z X → (p k : ℕ) → OnlyBeacons R X (run R X (beaconsHeard R (Y .frames) p k))
     post-only X t p zero = post-only-zero X t p
     post-only X t p (suc i) = post-only-suc X t p i (post-only X t p i)
@@ -160,17 +168,20 @@ module _ (R : Roles) (ro : RolesOk R) where
         go true = post-only X t p 8
         go false = rw (run-none R X) (only-itself X (t .thenOk) (t .thenAir))
 
-    -- those of the posts below k
+    -- those of no post
     posts-only-zero : OnlyBeacons R Z Z → OnlyBeacons R Z (run R Z (postsHearBeacons R (Y .frames) 0))
     posts-only-zero t = rw (posts-zero Z (Y .frames)) t
 
+    -- of one post more
     posts-only-suc : (p : ℕ) → OnlyBeacons R Z (run R Z (postsHearBeacons R (Y .frames) p))
         → OnlyBeacons R Z (run R Z (postsHearBeacons R (Y .frames) (suc p)))
-    posts-only-suc p w = rw (posts-suc Z (Y .frames) p) (only-on Z W (run R W (cond (R .present p) (beaconsHeard R (Y .frames) p 8) [])) w (one-only W w p))
+    posts-only-suc p w = rw (posts-suc Z (Y .frames) p)
+        (only-on Z W (run R W (cond (R .present p) (beaconsHeard R (Y .frames) p 8) [])) w (one-only W w p))
       where
         W : Yard
         W = run R Z (postsHearBeacons R (Y .frames) p)
 
+    -- of the posts below k
     pub posts-only : OnlyBeacons R Z Z → (k : ℕ) → OnlyBeacons R Z (run R Z (postsHearBeacons R (Y .frames) k))
     posts-only t zero = posts-only-zero t
     posts-only t (suc p) = posts-only-suc p (posts-only t p)
@@ -184,7 +195,8 @@ module _ (R : Roles) (ro : RolesOk R) where
     -- after the hearing of its beacon
     one-heard : (X : Yard) → OnlyBeacons R Z X → (p i : ℕ) → p < 8 → R .present p ≡ true → R .source i ≡ true → i ≢ p
         → Heard (step R X (hear p (Y .frames + sourcesBelow R i))) p i
-    one-heard X t p i l c b ne = rw (step-hear R X p k fine, hear-beacon X p (X .air k) (f .isBeacon), upd-same) (go (le-or-not (Y .posts i .clock) 0))
+    one-heard X t p i l c b ne =
+        rw (step-hear R X p k fine, hear-beacon X p (X .air k) (f .isBeacon), upd-same) (go (le-or-not (Y .posts i .clock) 0))
       where
         k : ℕ
         k = Y .frames + sourcesBelow R i

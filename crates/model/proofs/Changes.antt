@@ -10,7 +10,7 @@ use Rattle.roll.specs.Logs.{rank}
 use Rattle.model.proofs.Functions.{upd, upd-same, upd-other, upd-case, upd2, upd2-same, upd2-keep}
 use Rattle.model.proofs.Model.{Frame, Post, Roles, Yard, deliver}
 use Rattle.model.proofs.Invariants.{RolesOk, Posts, Knows, TakenIn, LogOk, SelfOk, FrameOk, YardOk, Grew, grew-itself, Grows, grew, yard-posts}
-use Rattle.model.proofs.Delivery.{deliver-log, deliver-served, deliver-begins, climbs, deliver-knows}
+use Rattle.model.proofs.Delivery.{deliver-log, deliver-served, deliver-begins, known-rise, deliver-knows}
 
 -- Z may follow Y: nothing that was sent, taken, logged or broadcast is lost
 pub record Next (R : Roles) (Y Z : Yard) : Type 0 where
@@ -44,7 +44,7 @@ pub changed : (R : Roles) → RolesOk R → (Y : Yard) (p : ℕ) (Q : Post) → 
 changed R ro Y p Q y g s k l e la air c b first more same firsts ok = record {
   nextOk = yard-posts R Y p D y g s (record {
     knows = deliver-knows R ro W p Q self k;
-    logOk = deliver-log R p Q (climbs R W Q k self) l;
+    logOk = deliver-log R p Q (known-rise R W Q k self) l;
     served = deliver-served R p Q l;
   }) air c b first ok;
   postsGrew = grew (Y .posts) p D g;

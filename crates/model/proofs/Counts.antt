@@ -11,10 +11,11 @@ use borrow.Author.Tests.{eqb-true, eq-eqb, ne-eqb}
 use Rattle.laws.proofs.TestLaws.{same-or-not, not-both}
 use Rattle.yard.specs.Worlds.{Single, order, hear, beacon}
 use Rattle.model.proofs.Functions.{upd, upd-same, upd-other, sumBelow, sum-same, sum-more}
-use Rattle.model.proofs.Model.{Post, Roles, Yard, deliver, ordered, orderRefused, orderDone, hearDone, step, sentBy, run, sent, laneHears, lanesHears, postsHear, beaconsSent, sourcesBelow, postsBelow, beaconsHeard, postsHearBeacons, rollSteps}
+use Rattle.model.proofs.Model.{Post, Roles, Yard, deliver, ordered, orderRefused, orderDone, hearDone, step, sentBy, run, sent, laneHears}
+use Rattle.model.proofs.Model.{lanesHears, postsHear, beaconsSent, sourcesBelow, postsBelow, beaconsHeard, postsHearBeacons, rollSteps}
 use Rattle.model.proofs.Invariants.{RolesOk, YardOk}
 use Rattle.model.proofs.Hearing.{hear-own}
-use Rattle.model.proofs.Steps.{order-pass, hearing-ways, beacon-ways}
+use Rattle.model.proofs.Steps.{order-pass, hear-or-refused, beacon-or-refused}
 use Rattle.model.proofs.SentOrders.{nextOrder}
 
 -- all orders sent, by the own serials
@@ -168,11 +169,11 @@ module _ (R : Roles) where
           → orders (cond b (orderDone R Y p w) Y) ≡ orders Y + length (cond b (nextOrder Y p w ∷ []) [])
       go true e = omega (arith, more (order-pass R Y p w (eqb-true (orderRefused R Y p w) 0 e) .0))
       go false e = omega arith
-  step-orders Y (hear p k) = hearing-ways R Y (λ Z. orders Z ≡ orders Y + 0) p k (λ e. omega (arith, same)) (omega arith)
+  step-orders Y (hear p k) = hear-or-refused R Y (λ Z. orders Z ≡ orders Y + 0) p k (λ e. omega (arith, same)) (omega arith)
     where
       same : orders (hearDone R Y p (Y .air k)) ≡ orders Y
       same = sum-same (λ i. Y .posts i .own) (λ i. hearDone R Y p (Y .air k) .posts i .own) 8 (λ i l. hear-own R Y p (Y .air k) i)
-  step-orders Y (beacon p) = beacon-ways R Y (λ Z. orders Z ≡ orders Y + 0) p (λ e. omega arith) (omega arith)
+  step-orders Y (beacon p) = beacon-or-refused R Y (λ Z. orders Z ≡ orders Y + 0) p (λ e. omega arith) (omega arith)
 
   -- by a list of them
   pub run-orders : (Y : Yard) (l : List Single) → orders (run R Y l) ≡ orders Y + length (sent R Y l)

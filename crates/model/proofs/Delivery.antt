@@ -15,8 +15,9 @@ use Rattle.roll.specs.Logs.{rank, inOrder}
 use Rattle.model.proofs.Functions.{le-or-not}
 use Rattle.model.proofs.Model.{Post, Roles, orderOf, takenBelow, has, ready, due, newLog, deliver}
 use Rattle.model.proofs.OrderLists.{Apart, mem-in-order, in-order-mem, in-order-rises, rising-append}
-use Rattle.model.proofs.Invariants.{RolesOk, source-below, Posts, stampOf, Holds, Shut, Knows, TakenIn, LogOk, Served, SelfOk}
-use Rattle.model.proofs.Taken.{below-all, all-below, mem-those, those-mem, apart-those, has-mem, mem-has, mem-taken, taken-mem, Climbs, apart-taken, same-rank}
+use Rattle.model.proofs.Invariants.{RolesOk, source-below, Posts, stampOf, Holds, NoMore, Knows, TakenIn, LogOk, Served, SelfOk}
+use Rattle.model.proofs.Taken.{below-all, all-below, mem-those, those-mem, apart-those, has-mem, mem-has, mem-taken, taken-mem, KeptRise}
+use Rattle.model.proofs.Taken.{apart-taken, same-rank}
 
 module _ (R : Roles) where
   -- ---- an order with stamp t is ready
@@ -82,6 +83,7 @@ module _ (R : Roles) where
 
   -- ---- the log after a delivery
 
+  -- the post with another log
   abbrev pub withLog : Post → List Order → Post
   withLog P l = record { clock = P .clock; own = P .own; last = P .last; table = P .table; stamps = P .stamps; words = P .words; log = l }
 
@@ -104,7 +106,7 @@ module _ (R : Roles) where
       go (inr m) = inr (in-order-mem x (due R P) m)
 
   -- what is due ranks above all of the log
-  above : (P : Post) → Climbs P → LogOk P → (x y : Order) → Mem x (P .log) → Mem y (due R P) → rank x < rank y
+  above : (P : Post) → KeptRise P → LogOk P → (x y : Order) → Mem x (P .log) → Mem y (due R P) → rank x < rank y
   above P c o x y m n = go (le-or-not (rank y) (rank x))
     where
       in-log : (rank y ≡ rank x) ⊎ (rank y ≢ rank x) → rank y ≤ rank x → Mem y (P .log)
@@ -116,12 +118,12 @@ module _ (R : Roles) where
       go (inr l) = l
 
   -- orders due rank apart
-  apart-due : (P : Post) → Climbs P → Apart (due R P)
+  apart-due : (P : Post) → KeptRise P → Apart (due R P)
   unfolding due
   apart-due P c = apart-those (isDue P) (takenBelow P 8) (apart-taken P c 8 (omega arith))
 
   -- the log stays in order where the orders due are added
-  log-grown : (P : Post) → Climbs P → LogOk P → LogOk (withLog P (P .log ++ inOrder (due R P)))
+  log-grown : (P : Post) → KeptRise P → LogOk P → LogOk (withLog P (P .log ++ inOrder (due R P)))
   log-grown P c o = record {
     logRises = rising-append (P .log) (inOrder (due R P)) (o .logRises) (in-order-rises (due R P) (apart-due P c))
         (λ x y m n. above P c o x y m (in-order-mem y (due R P) n));
@@ -142,12 +144,11 @@ module _ (R : Roles) where
       down x y t l (inl m) = put y (inl (o .logClosed x y m t l))
       down x y t l (inr m) =
           let e : y .stamp ≡ P .stamps (y .lane) (y .serial) = ap (λ (o : Order). o .stamp) (t .asKept) in
-          let r : ready R P (P .stamps (y .lane) (y .serial)) ≡ true
-              = ready-down P (x .stamp) (P .stamps (y .lane) (y .serial)) (omega (arith, due-taken P x m .laneBelow)) (due-ready P x m) in
+          let r = ready-down P (x .stamp) (P .stamps (y .lane) (y .serial)) (omega (arith, e, due-taken P x m .laneBelow)) (due-ready P x m) in
           put y (rw (t .asKept) (served-or-due P o (y .lane) (y .serial) (t .laneBelow) (t .serialFromOne) (t .serialTaken) r))
 
   -- a delivery keeps the log in order
-  pub deliver-log : (p : ℕ) (P : Post) → Climbs P → LogOk P → LogOk (deliver R p P)
+  pub deliver-log : (p : ℕ) (P : Post) → KeptRise P → LogOk P → LogOk (deliver R p P)
   deliver-log p P c o = newLog-case (λ l. LogOk (withLog P l)) p P (λ e. log-grown P c o) (λ e. o)
 
   -- and leaves nothing ready behind
@@ -167,8 +168,8 @@ module _ (R : Roles) where
   -- ---- nothing comes below what was delivered
 
   -- the stamps that a post keeps rise, being those of orders sent
-  pub climbs : (W : Posts) (P : Post) → Knows R W P → ((i : ℕ) → SelfOk R i (W i)) → Climbs P
-  climbs W P k s i n a b =
+  pub known-rise : (W : Posts) (P : Post) → Knows R W P → ((i : ℕ) → SelfOk R i (W i)) → KeptRise P
+  known-rise W P k s i n a b =
       rw (k .stampsTrue i n a (omega arith), k .stampsTrue i (suc n) (omega arith) b) (s i .stampsRise n a (omega (arith, k .lastSent i)))
 
   -- stamps of a lane rise with the serial
@@ -181,10 +182,10 @@ module _ (R : Roles) where
       go (inl e) ih = rw e (omega arith)
       go (inr e) ih = omega (arith, ih a (omega arith) (omega arith), s i .stampsRise m (omega arith) d)
 
-  -- the heart of the matter: where stamp t is ready, no source sends t or below after the orders that the post has taken
-  pub ready-shut : (W : Posts) (P : Post) → Knows R W P → ((i : ℕ) → SelfOk R i (W i)) → (t : ℕ) → 0 < t → ready R P t ≡ true
-      → (i : ℕ) → i < 8 → R .source i ≡ true → Shut W (P .last i) t i
-  ready-shut W P k s t pos e i l b = record {
+  -- what the whole proof rests on: where stamp t is ready, no source sends t or below after the orders that the post has taken
+  pub ready-no-more : (W : Posts) (P : Post) → Knows R W P → ((i : ℕ) → SelfOk R i (W i)) → (t : ℕ) → 0 < t → ready R P t ≡ true
+      → (i : ℕ) → i < 8 → R .source i ≡ true → NoMore W (P .last i) t i
+  ready-no-more W P k s t pos e i l b = record {
     clockPast = omega (arith, h .clockReached, r);
     laterAbove = λ n a c. omega (arith, r, h .beforeNext (omega arith), rises W s i (suc (P .last i)) n (omega arith) a c);
   }
@@ -202,14 +203,14 @@ module _ (R : Roles) where
     lastSent = k .lastSent;
     stampsTrue = k .stampsTrue;
     wordsTrue = k .wordsTrue;
-    loggedShut = newLog-case (λ l. (x : Order) → Mem x l → (i : ℕ) → R .source i ≡ true → Shut W (P .last i) (x .stamp) i) p P
-        (λ e x m. new x (added P x m)) (λ e. k .loggedShut);
+    loggedNoMore = newLog-case (λ l. (x : Order) → Mem x l → (i : ℕ) → R .source i ≡ true → NoMore W (P .last i) (x .stamp) i) p P
+        (λ e x m. new x (added P x m)) (λ e. k .loggedNoMore);
   }
     where
       pos : (x : Order) → TakenIn P 8 x → 0 < x .stamp
       pos x t = rw (ap (λ (o : Order). o .stamp) (t .asKept), k .stampsTrue (x .lane) (x .serial) (t .serialFromOne) (t .serialTaken))
           (s (x .lane) .stampsPositive (x .serial) (t .serialFromOne) (omega (arith, t .serialTaken, k .lastSent (x .lane))))
 
-      new : (x : Order) → Mem x (P .log) ⊎ Mem x (due R P) → (i : ℕ) → R .source i ≡ true → Shut W (P .last i) (x .stamp) i
-      new x (inl m) i b = k .loggedShut x m i b
-      new x (inr m) i b = ready-shut W P k s (x .stamp) (pos x (due-taken P x m)) (due-ready P x m) i (source-below R ro i b) b
+      new : (x : Order) → Mem x (P .log) ⊎ Mem x (due R P) → (i : ℕ) → R .source i ≡ true → NoMore W (P .last i) (x .stamp) i
+      new x (inl m) i b = k .loggedNoMore x m i b
+      new x (inr m) i b = ready-no-more W P k s (x .stamp) (pos x (due-taken P x m)) (due-ready P x m) i (source-below R ro i b) b

@@ -17,8 +17,9 @@ le-or-not a b = go (leb a b) refl
     go false e = inr (leb-false a b e)
 
 module _ {A : Type 0} where
-  -- ---- a function of one number, changed at i to a
+  -- ---- a function of one number
 
+  -- f changed at i to a
   unfoldable pub upd : (ℕ → A) → ℕ → A → ℕ → A
   upd f i a j = cond (eqb j i) a (f j)
 
@@ -40,8 +41,9 @@ module _ {A : Type 0} where
       go (inl e) = rw (e, upd-same) (y e)
       go (inr h) = rw (upd-other f i a j h) (n h)
 
-  -- ---- a function of two numbers, changed at (i, n) to a
+  -- ---- a function of two numbers
 
+  -- f changed at (i, n) to a
   unfoldable pub upd2 : (ℕ → ℕ → A) → ℕ → ℕ → A → ℕ → ℕ → A
   upd2 f i n a j m = cond (eqb j i && eqb m n) a (f j m)
 
@@ -77,8 +79,9 @@ module _ {A : Type 0} where
       go (inl e) (inr g) = rw (upd2-keep f i n a j m (λ x. g)) (k (λ x. g))
       go (inr e) g = rw (upd2-keep f i n a j m (λ x. absurd (e x))) (k (λ x. absurd (e x)))
 
--- ---- the sum of f below k
+-- ---- sums
 
+-- f 0 + .. + f (k - 1)
 unfoldable pub sumBelow : ℕ → (ℕ → ℕ) → ℕ
 sumBelow zero f = 0
 sumBelow (suc k) f = f k + sumBelow k f

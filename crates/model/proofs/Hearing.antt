@@ -10,7 +10,8 @@ use Rattle.laws.proofs.TestLaws.{same-or-not, not-both}
 use Rattle.roll.specs.Runs.{Order}
 use Rattle.model.proofs.Functions.{upd, upd-same, upd-other, upd-case, upd2, upd2-same, upd2-keep, upd2-case}
 use Rattle.model.proofs.Model.{Frame, Post, Roles, Yard, deliver, entriesFrame, raise, raised, taken, silent, spoken, hearDone}
-use Rattle.model.proofs.Invariants.{RolesOk, Posts, stampOf, wordOf, Holds, Sent, Knows, LogOk, SelfOk, FrameOk, YardOk, sends-source, Grew, holds-grew, sent-grew, shut-grew, shut-later, knows-grew, frame-grew, Grows, grew}
+use Rattle.model.proofs.Invariants.{RolesOk, Posts, stampOf, wordOf, Holds, Sent, Knows, LogOk, SelfOk, FrameOk, YardOk, sends-source, Grew}
+use Rattle.model.proofs.Invariants.{holds-grew, sent-grew, no-more-grew, no-more-later, knows-grew, frame-grew, Grows, grew}
 use Rattle.model.proofs.Entries.{raise-true, raise-own, broadcast-ok}
 use Rattle.model.proofs.Changes.{Next, changed, older-frames, one-more-frame, newest-or-old, take-log}
 
@@ -26,21 +27,21 @@ yardTaking R Y p f =
     spoken Y p (deliver R p (postTaking R p (Y .posts p) f)) (entriesFrame false p (f .carried) (postTaking R p (Y .posts p) f))
 
 -- the yard where only the entries are heard
-abbrev pub yardRaised : Roles → Yard → ℕ → Frame → Yard
-yardRaised R Y p f = silent Y p (deliver R p (raised (Y .posts p) f))
+abbrev pub yardHearing : Roles → Yard → ℕ → Frame → Yard
+yardHearing R Y p f = silent Y p (deliver R p (raised (Y .posts p) f))
 
 -- the frame carries the order that post p takes next
 abbrev pub IsNext : Yard → ℕ → Frame → Type 0
 IsNext Y p f = (f .beacon ≡ false) × (f .carried .serial ≡ suc (Y .posts p .last (f .carried .lane)))
 
 -- what holds of the yard in both ways holds after a hearing
-pub hear-ways : (C : Yard → Type 0) (R : Roles) (Y : Yard) (p : ℕ) (f : Frame)
-    → (IsNext Y p f → C (yardTaking R Y p f)) → ((IsNext Y p f → ⊥) → C (yardRaised R Y p f)) → C (hearDone R Y p f)
+pub taken-or-not : (C : Yard → Type 0) (R : Roles) (Y : Yard) (p : ℕ) (f : Frame)
+    → (IsNext Y p f → C (yardTaking R Y p f)) → ((IsNext Y p f → ⊥) → C (yardHearing R Y p f)) → C (hearDone R Y p f)
 unfolding hearDone
-hear-ways C R Y p f took heard = go (f .beacon) (eqb (f .carried .serial) (suc (Y .posts p .last (f .carried .lane)))) refl refl
+taken-or-not C R Y p f took heard = go (f .beacon) (eqb (f .carried .serial) (suc (Y .posts p .last (f .carried .lane)))) refl refl
   where
     go : (a b : Bool) → f .beacon ≡ a → eqb (f .carried .serial) (suc (Y .posts p .last (f .carried .lane))) ≡ b
-        → C (cond (not a && b) (yardTaking R Y p f) (yardRaised R Y p f))
+        → C (cond (not a && b) (yardTaking R Y p f) (yardHearing R Y p f))
     go true b q r = heard (λ n. not-both (f .beacon) q (n .0))
     go false true q r = took (q, eqb-true (f .carried .serial) (suc (Y .posts p .last (f .carried .lane))) r)
     go false false q r = heard (λ n. eqb-false (f .carried .serial) (suc (Y .posts p .last (f .carried .lane))) r (n .1))
@@ -173,17 +174,17 @@ taking-ok R ro Y p f present fo next y =
       wordsTrue = λ i n a. upd2-case (λ z. n ≤ Q .last i → z ≡ wordOf X i n) (P .words) (o .lane) (o .serial) (o .word) i n
           (λ q r l. rw (q, r) (sx .wordIs))
           (λ q l. kp .wordsTrue i n a (old i n l q) ∙ sym (gr .wordsStay i n a (omega (arith, old i n l q, kp .lastSent i))));
-      loggedShut = λ x m i c. shut-later X (P .last i) (Q .last i) (x .stamp) i (later i)
-          (shut-grew (Y .posts) X gr (P .last i) (x .stamp) i (kp .loggedShut x m i c));
+      loggedNoMore = λ x m i c. no-more-later X (P .last i) (Q .last i) (x .stamp) i (later i)
+          (no-more-grew (Y .posts) X gr (P .last i) (x .stamp) i (kp .loggedNoMore x m i c));
     }
 
-    -- its log stays in order: the lane is shut up to all that is logged
+    -- its log stays in order: the lane sends no more up to what is logged
     source : R .source (o .lane) ≡ true
     source = sends-source R Y y (o .lane) (omega (arith, st .fromOne, st .wasSent))
 
     lg : LogOk Q
     lg = take-log P (y .postsOk p .logOk) (o .lane) (o .serial) (o .stamp) (o .word) e
-        (λ x m. omega (arith, st .stampIs, kp .loggedShut x m (o .lane) source .laterAbove (o .serial) (omega (arith, e)) (st .wasSent)))
+        (λ x m. omega (arith, st .stampIs, kp .loggedNoMore x m (o .lane) source .laterAbove (o .serial) (omega (arith, e)) (st .wasSent)))
         (Q .clock) (Q .own) (Q .table)
 
     -- its broadcast carries the order on
@@ -192,8 +193,9 @@ taking-ok R ro Y p f present fo next y =
 
 -- ---- only the entries are heard
 
-pub raised-ok : (R : Roles) → RolesOk R → (Y : Yard) (p : ℕ) (f : Frame) → FrameOk R (Y .posts) f → YardOk R Y → Next R Y (yardRaised R Y p f)
-raised-ok R ro Y p f fo y =
+-- whatever the frame
+pub hearing-ok : (R : Roles) → RolesOk R → (Y : Yard) (p : ℕ) (f : Frame) → FrameOk R (Y .posts) f → YardOk R Y → Next R Y (yardHearing R Y p f)
+hearing-ok R ro Y p f fo y =
     changed R ro Y p Q y g s kn lg refl (λ i. omega arith) (Y .air) (Y .frames) (Y .beacons) (Y .first)
     (omega arith) (λ k l. refl) (λ i n a l. refl)
     (λ k l. frame-grew R (Y .posts) X gr (Y .air k) (y .framesOk k l))
@@ -244,7 +246,7 @@ raised-ok R ro Y p f fo y =
       lastSent = kx .lastSent;
       stampsTrue = kx .stampsTrue;
       wordsTrue = kx .wordsTrue;
-      loggedShut = kx .loggedShut;
+      loggedNoMore = kx .loggedNoMore;
     }
 
     lg : LogOk Q
@@ -252,14 +254,15 @@ raised-ok R ro Y p f fo y =
 
 -- ---- either way
 
+-- a post of the yard hears a frame
 pub hear-ok : (R : Roles) → RolesOk R → (Y : Yard) (p : ℕ) (f : Frame) → R .present p ≡ true → FrameOk R (Y .posts) f → YardOk R Y
     → Next R Y (hearDone R Y p f)
 hear-ok R ro Y p f present fo y =
-    hear-ways (λ Z. Next R Y Z) R Y p f (λ n. taking-ok R ro Y p f present fo n y) (λ n. raised-ok R ro Y p f fo y)
+    taken-or-not (λ Z. Next R Y Z) R Y p f (λ n. taking-ok R ro Y p f present fo n y) (λ n. hearing-ok R ro Y p f fo y)
 
 -- no order is sent
 pub hear-own : (R : Roles) (Y : Yard) (p : ℕ) (f : Frame) (i : ℕ) → hearDone R Y p f .posts i .own ≡ Y .posts i .own
-hear-own R Y p f i = hear-ways (λ Z. Z .posts i .own ≡ Y .posts i .own) R Y p f
+hear-own R Y p f i = taken-or-not (λ Z. Z .posts i .own ≡ Y .posts i .own) R Y p f
     (λ n. same (deliver R p (postTaking R p (Y .posts p) f)) refl) (λ n. same (deliver R p (raised (Y .posts p) f)) refl)
   where
     same : (Q : Post) → Q .own ≡ Y .posts p .own → upd (Y .posts) p Q i .own ≡ Y .posts i .own
@@ -267,4 +270,4 @@ hear-own R Y p f i = hear-ways (λ Z. Z .posts i .own ≡ Y .posts i .own) R Y p
 
 -- and no beacon
 pub hear-beacons : (R : Roles) (Y : Yard) (p : ℕ) (f : Frame) → hearDone R Y p f .beacons ≡ Y .beacons
-hear-beacons R Y p f = hear-ways (λ Z. Z .beacons ≡ Y .beacons) R Y p f (λ n. refl) (λ n. refl)
+hear-beacons R Y p f = taken-or-not (λ Z. Z .beacons ≡ Y .beacons) R Y p f (λ n. refl) (λ n. refl)

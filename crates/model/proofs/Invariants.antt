@@ -29,10 +29,11 @@ source-below R ro i b = ro .presentLanes i (ro .sourcesPresent i b)
 abbrev pub Posts : Type 0
 Posts = ℕ → Post
 
--- stamp and word of the order that lane i sent with serial n: its own post keeps them
+-- the stamp of the order that lane i sent with serial n: its own post keeps it
 abbrev pub stampOf : Posts → ℕ → ℕ → ℕ
 stampOf W i n = W i .stamps i n
 
+-- and its word
 abbrev pub wordOf : Posts → ℕ → ℕ → ℕ
 wordOf W i n = W i .words i n
 
@@ -49,8 +50,8 @@ pub record Sent (W : Posts) (o : Order) : Type 0 where
   pub stampIs : o .stamp ≡ stampOf W (o .lane) (o .serial)
   pub wordIs : o .word ≡ wordOf W (o .lane) (o .serial)
 
--- lane i sends nothing with stamp t or below after serial l, now and later
-pub record Shut (W : Posts) (l t i : ℕ) : Type 0 where
+-- lane i sends no more with stamp t or below after serial l, now and later
+pub record NoMore (W : Posts) (l t i : ℕ) : Type 0 where
   pub clockPast : t ≤ W i .clock
   pub laterAbove : (k : ℕ) → l < k → k ≤ W i .own → t < stampOf W i k
 
@@ -62,7 +63,7 @@ pub record Knows (R : Roles) (W : Posts) (P : Post) : Type 0 where
   pub lastSent : (i : ℕ) → P .last i ≤ W i .own
   pub stampsTrue : (i n : ℕ) → 0 < n → n ≤ P .last i → P .stamps i n ≡ stampOf W i n
   pub wordsTrue : (i n : ℕ) → 0 < n → n ≤ P .last i → P .words i n ≡ wordOf W i n
-  pub loggedShut : (x : Order) → Mem x (P .log) → (i : ℕ) → R .source i ≡ true → Shut W (P .last i) (x .stamp) i
+  pub loggedNoMore : (x : Order) → Mem x (P .log) → (i : ℕ) → R .source i ≡ true → NoMore W (P .last i) (x .stamp) i
 
 -- x is an order that P has taken from a lane below k
 abbrev pub TakenIn : Post → ℕ → Order → Type 0
@@ -112,6 +113,7 @@ pub record FrameOk (R : Roles) (W : Posts) (f : Frame) : Type 0 where
   pub senderPresent : R .present (f .sender) ≡ true
   pub emptyEntries : (i : ℕ) → f .entryStamp i ≡ 0 → f .entrySerial i ≡ 0
 
+-- each post by itself, each in view of the others, and each frame
 pub record YardOk (R : Roles) (Y : Yard) : Type 0 where
   pub selves : (p : ℕ) → SelfOk R p (Y .posts p)
   pub postsOk : (p : ℕ) → PostOk R (Y .posts) p (Y .posts p)
@@ -166,9 +168,9 @@ sent-grew W X g o s = record {
   wordIs = s .wordIs ∙ sym (g .wordsStay (o .lane) (o .serial) (s .fromOne) (s .wasSent));
 }
 
--- a lane that is shut stays shut
-pub shut-grew : (W X : Posts) → Grew W X → (l t i : ℕ) → Shut W l t i → Shut X l t i
-shut-grew W X g l t i c = record {
+-- a lane that sends no more up to a stamp stays so
+pub no-more-grew : (W X : Posts) → Grew W X → (l t i : ℕ) → NoMore W l t i → NoMore X l t i
+no-more-grew W X g l t i c = record {
   clockPast = omega (arith, c .clockPast, g .clockGrows i);
   laterAbove = λ k a b. go k a b (le-or-not k (W i .own));
 }
@@ -177,9 +179,9 @@ shut-grew W X g l t i c = record {
     go k a b (inl q) = rw (g .stampsStay i k (omega arith) q) (c .laterAbove k a q)
     go k a b (inr q) = omega (arith, g .newAbove i k q b, c .clockPast)
 
--- also after a later serial
-pub shut-later : (W : Posts) (l m t i : ℕ) → l ≤ m → Shut W l t i → Shut W m t i
-shut-later W l m t i h c = record { clockPast = c .clockPast; laterAbove = λ k a b. c .laterAbove k (omega arith) b }
+-- it is so after a later serial too
+pub no-more-later : (W : Posts) (l m t i : ℕ) → l ≤ m → NoMore W l t i → NoMore W m t i
+no-more-later W l m t i h c = record { clockPast = c .clockPast; laterAbove = λ k a b. c .laterAbove k (omega arith) b }
 
 -- what a post knows stays true
 pub knows-grew : (R : Roles) (W X : Posts) → Grew W X → (P : Post) → Knows R W P → Knows R X P
@@ -188,7 +190,7 @@ knows-grew R W X g P k = record {
   lastSent = λ i. omega (arith, k .lastSent i, g .ownGrows i);
   stampsTrue = λ i n a b. k .stampsTrue i n a b ∙ sym (g .stampsStay i n a (omega (arith, k .lastSent i)));
   wordsTrue = λ i n a b. k .wordsTrue i n a b ∙ sym (g .wordsStay i n a (omega (arith, k .lastSent i)));
-  loggedShut = λ x m i s. shut-grew W X g (P .last i) (x .stamp) i (k .loggedShut x m i s);
+  loggedNoMore = λ x m i s. no-more-grew W X g (P .last i) (x .stamp) i (k .loggedNoMore x m i s);
 }
 
 -- what holds of a frame goes on holding

@@ -1,5 +1,5 @@
 -- A yard as functions of lanes and serials, without lengths and bounds: what the invariants are proved over.
--- `Views` of the crate `agreement` shows that the yard of document 01 does what this one does; nobody has to believe this file.
+-- The crate `agreement` shows that the yard of document 01 does what this one does; nobody has to believe this file. Assumes nothing.
 use mathlib.Core.List.{List, [], _∷_, _++_}
 use mathlib.Core.Bool.{Bool, true, false, cond, _&&_, _||_, not}
 use Prim.Native.Nat.{ℕ, zero, suc, _+_, max}
@@ -41,6 +41,19 @@ pub record Yard : Type 0 where
   pub frames : ℕ
   pub beacons : ℕ
   pub first : ℕ → ℕ → ℕ
+
+-- ---- the newest entry of a lane
+
+-- the serial up to k with the highest stamp, of equals the higher
+unfoldable pub best : (ℕ → ℕ) → ℕ → ℕ
+best T zero = zero
+best T (suc k) = cond (leb (T (best T k)) (T (suc k))) (suc k) (best T k)
+
+abbrev pub newestStamp : (ℕ → ℕ) → ℕ
+newestStamp T = T (best T 16)
+
+abbrev pub newestSerial : (ℕ → ℕ) → ℕ
+newestSerial T = cond (eqb (newestStamp T) 0) 0 (best T 16)
 
 -- ---- delivery
 
@@ -92,17 +105,6 @@ module _ (R : Roles) where
   }
 
 -- ---- what a broadcast carries
-
--- the newest entry of a lane: the serial up to k with the highest stamp, of equals the higher
-unfoldable pub best : (ℕ → ℕ) → ℕ → ℕ
-best T zero = zero
-best T (suc k) = cond (leb (T (best T k)) (T (suc k))) (suc k) (best T k)
-
-abbrev pub newestStamp : (ℕ → ℕ) → ℕ
-newestStamp T = T (best T 16)
-
-abbrev pub newestSerial : (ℕ → ℕ) → ℕ
-newestSerial T = cond (eqb (newestStamp T) 0) 0 (best T 16)
 
 abbrev pub entriesFrame : Bool → ℕ → Order → Post → Frame
 entriesFrame b p o P = record {

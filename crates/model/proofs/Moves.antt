@@ -13,10 +13,10 @@ use Rattle.roll.specs.Runs.{Order, Step, one, roll}
 use Rattle.roll.specs.Logs.{inOrder}
 use Rattle.model.proofs.Functions.{sumBelow}
 use Rattle.model.proofs.Model.{Frame, Roles, Yard, step, sentBy, run, sent, freshPost, fresh, sourcesBelow, postsBelow, rollSteps}
-use Rattle.model.proofs.Invariants.{RolesOk, YardOk}
+use Rattle.model.proofs.Invariants.{RolesOk, Sent, YardOk}
 use Rattle.model.proofs.Steps.{pass, if-zero, step-ok, run-ok, run-log}
 use Rattle.model.proofs.SentOrders.{Lists, step-lists, run-lists, log-begins, fresh-ok, fresh-lists}
-use Rattle.model.proofs.Air.{AirOk, step-air, run-air, fresh-air}
+use Rattle.model.proofs.Air.{AirOk, frames-bound, clock-bound, stamp-bound, step-air, run-air, fresh-air}
 use Rattle.model.proofs.Counts.{orders, roll-count, step-orders, run-orders}
 use Rattle.model.proofs.RollLists.{roll-sends-none}
 use Rattle.model.proofs.RollCall.{roll-logs}
@@ -32,29 +32,33 @@ module _ (R : Roles) where
   unfoldable pub rollAnswer : Yard → ℕ
   rollAnswer Y = length (rollSteps R Y)
 
+  -- what a step leaves
   unfoldable pub move : Yard → Step → Yard
   move Y (one s) = step R Y s
   move Y roll = cond (eqb (rollRefused Y) 0) (run R Y (rollSteps R Y)) Y
 
+  -- the order that it sends, if any
   unfoldable pub sentIn : Yard → Step → List Order
   sentIn Y (one s) = sentBy R Y s
   sentIn Y roll = []
 
+  -- what a list of them leaves
   unfoldable pub moves : Yard → List Step → Yard
   moves Y [] = Y
   moves Y (m ∷ l) = moves (move Y m) l
 
-  -- all orders sent by a list of steps, in the order of sending
+  -- all orders that it sends, in the order of sending
   unfoldable pub allSent : Yard → List Step → List Order
   allSent Y [] = []
   allSent Y (m ∷ l) = sentIn Y m ++ allSent (move Y m) l
 
-  -- a list after another
+  -- a list and then another: what they leave
   pub moves-append : (Y : Yard) (l m : List Step) → moves Y (l ++ m) ≡ moves (moves Y l) m
   unfolding moves
   moves-append Y [] m = refl
   moves-append Y (s ∷ l) m = moves-append (move Y s) l m
 
+  -- and what they send
   pub sent-append : (Y : Yard) (l m : List Step) → allSent Y (l ++ m) ≡ allSent Y l ++ allSent (moves Y l) m
   unfolding allSent moves
   sent-append Y [] m = refl
@@ -64,7 +68,9 @@ module _ (R : Roles) where
   -- a roll call that is not refused has room for its beacons; `beacons` at most 1,024 is needed, as 1024 - beacons stops at 0
   pub roll-room : (Y : Yard) → Y .beacons ≤ 1024 → rollRefused Y ≡ 0 → Y .beacons + sourcesBelow R 8 ≤ 1024
   unfolding rollRefused
-  roll-room Y b e = omega (arith, ltb-false (1024 - Y .beacons) (sourcesBelow R 8) (pass (ltb (1024 - Y .beacons) (sourcesBelow R 8)) 27 0 (omega arith) e .0))
+  roll-room Y b e =
+      let p = pass (ltb (1024 - Y .beacons) (sourcesBelow R 8)) 27 0 (omega arith) e in
+      omega (arith, ltb-false (1024 - Y .beacons) (sourcesBelow R 8) (p .0))
 
 -- ---- what holds after every list of steps
 
@@ -125,18 +131,36 @@ module _ (R : Roles) (ro : RolesOk R) where
   pub good : (air : ℕ → Frame) (l : List Step) → Good R ro (moves R (fresh air) l) (allSent R (fresh air) l)
   good air l = moves-good (fresh air) [] (fresh-good air) l
 
+  -- ---- bounds
+
+  -- at most 2,048 frames
+  pub good-frames : (Y : Yard) (S : List Order) → Good R ro Y S → Y .frames ≤ 2048
+  good-frames Y S g = frames-bound R Y (g .yardOk) (g .airOk)
+
+  -- no clock above 1,024
+  pub good-clock : (Y : Yard) (S : List Order) → Good R ro Y S → (p : ℕ) → Y .posts p .clock ≤ 1024
+  good-clock Y S g p = clock-bound R Y (g .yardOk) (g .airOk) p
+
+  -- no stamp of an order sent
+  pub good-stamp : (Y : Yard) (S : List Order) → Good R ro Y S → (o : Order) → Sent (Y .posts) o → o .stamp ≤ 1024
+  good-stamp Y S g o s = stamp-bound R Y (g .yardOk) (g .airOk) o s
+
   -- ---- logs
 
   -- a log is begun by what it was before a single step
   pub single-log : (Y : Yard) (S : List Order) → Good R ro Y S → (s : Single) (p : ℕ) → Begins (Y .posts p .log) (step R Y s .posts p .log)
   single-log Y S g s p = step-ok R ro Y s (g .yardOk) .logsBegin p
 
+  -- before a list of single steps
+  pub singles-log : (Y : Yard) (S : List Order) → Good R ro Y S → (l : List Single) (p : ℕ) → Begins (Y .posts p .log) (run R Y l .posts p .log)
+  singles-log Y S g l p = run-log R ro Y l (g .yardOk) p
+
   -- before a step of a list
   pub move-log : (Y : Yard) (S : List Order) → Good R ro Y S → (m : Step) (p : ℕ) → Begins (Y .posts p .log) (move R Y m .posts p .log)
   unfolding move
   move-log Y S g (one s) p = single-log Y S g s p
   move-log Y S g roll p = if-zero (λ Z. Begins (Y .posts p .log) (Z .posts p .log)) (rollRefused R Y) (run R Y (rollSteps R Y)) Y
-      (λ e. run-log R ro Y (rollSteps R Y) (g .yardOk) p) (begins-itself (Y .posts p .log))
+      (λ e. singles-log Y S g (rollSteps R Y) p) (begins-itself (Y .posts p .log))
 
   -- before a list of steps
   pub moves-log : (Y : Yard) (S : List Order) → Good R ro Y S → (l : List Step) (p : ℕ) → Begins (Y .posts p .log) (moves R Y l .posts p .log)
@@ -163,7 +187,8 @@ module _ (R : Roles) (ro : RolesOk R) where
   -- ---- after a roll call that is not refused
 
   -- every destination's log is the list of all orders sent
-  pub roll-whole : (Y : Yard) (S : List Order) → Good R ro Y S → rollRefused R Y ≡ 0 → (p : ℕ) → R .dest p ≡ true → move R Y roll .posts p .log ≡ inOrder S
+  pub roll-whole : (Y : Yard) (S : List Order) → Good R ro Y S → rollRefused R Y ≡ 0 → (p : ℕ) → R .dest p ≡ true
+      → move R Y roll .posts p .log ≡ inOrder S
   unfolding move
   roll-whole Y S g e p d = rw (eq-eqb (rollRefused R Y) 0 e)
       (roll-logs R ro Y S (g .yardOk) (g .airOk) (g .sentListed) (roll-room R Y (g .airOk .beaconsAtMost) e) p d)
@@ -181,6 +206,7 @@ module _ (R : Roles) (ro : RolesOk R) where
     pub answerIs : rollAnswer R (moves R (fresh air) steps)
         ≡ (postsBelow R 8 - 1) * length (allSent R (fresh air) steps) + postsBelow R 8 * sourcesBelow R 8
 
+  -- holds where there is a post and the roll call is not refused
   pub called : (air : ℕ → Frame) (steps : List Step) → 0 < postsBelow R 8 → rollRefused R (moves R (fresh air) steps) ≡ 0 → Called air steps
   unfolding moves allSent sentIn
   called air steps n e = record {

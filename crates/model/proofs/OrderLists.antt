@@ -11,16 +11,19 @@ use Rattle.laws.proofs.ListLaws.{Mem, mem-right, mem-append, Begins}
 use Rattle.roll.specs.Runs.{Order}
 use Rattle.roll.specs.Logs.{rank, insertOrder, inOrder}
 
--- strictly rising keys
+-- ranks rise strictly along the list
 abbrev pub Rising : List Order → Type 0
 Rising [] = Unit {0}
 Rising (x ∷ l) = ((y : Order) → Mem y l → rank x < rank y) × Rising l
 
--- no two keys alike
+-- no two orders of the list rank alike
 abbrev pub Apart : List Order → Type 0
 Apart [] = Unit {0}
 Apart (x ∷ l) = ((y : Order) → Mem y l → rank x ≢ rank y) × Apart l
 
+-- ---- what `inOrder` makes
+
+-- an order inserted, and the members, are members
 pub mem-insert : (z x : Order) (l : List Order) → (z ≡ x) ⊎ Mem z l → Mem z (insertOrder x l)
 unfolding insertOrder
 mem-insert z x [] h = h
@@ -32,6 +35,7 @@ mem-insert z x (y ∷ l) h = go (ltb (rank x) (rank y)) h (mem-insert z x l)
     go false (inr (inl e)) ih = inl e
     go false (inr (inr m)) ih = inr (ih (inr m))
 
+-- and nothing else is
 pub insert-mem : (z x : Order) (l : List Order) → Mem z (insertOrder x l) → (z ≡ x) ⊎ Mem z l
 unfolding insertOrder
 insert-mem z x [] h = h
@@ -46,6 +50,7 @@ insert-mem z x (y ∷ l) h = go (ltb (rank x) (rank y)) h (insert-mem z x l)
     go false (inl e) ih = inr (inl e)
     go false (inr m) ih = up (ih m)
 
+-- an order that ranks like none leaves the list rising
 pub insert-rises : (x : Order) (l : List Order) → Rising l → ((y : Order) → Mem y l → rank x ≢ rank y) → Rising (insertOrder x l)
 unfolding insertOrder
 insert-rises x [] r n = (λ y m. absurd m, tt)
@@ -63,12 +68,14 @@ insert-rises x (y ∷ l) r n = go (ltb (rank x) (rank y)) refl (insert-rises x l
     go true e ih = (λ z m. above z (ltb-true (rank x) (rank y) e) m, r)
     go false e ih = (λ z m. below z (ltb-false (rank x) (rank y) e) (insert-mem z x l m), ih)
 
+-- the members of a list are members of the list in order
 pub mem-in-order : (z : Order) (l : List Order) → Mem z l → Mem z (inOrder l)
 unfolding inOrder
 mem-in-order z [] h = h
 mem-in-order z (x ∷ l) (inl e) = mem-insert z x (inOrder l) (inl e)
 mem-in-order z (x ∷ l) (inr m) = mem-insert z x (inOrder l) (inr (mem-in-order z l m))
 
+-- and nothing else is
 pub in-order-mem : (z : Order) (l : List Order) → Mem z (inOrder l) → Mem z l
 unfolding inOrder
 in-order-mem z [] h = h
@@ -78,11 +85,15 @@ in-order-mem z (x ∷ l) h = go (insert-mem z x (inOrder l) h) (in-order-mem z l
     go (inl e) ih = inl e
     go (inr m) ih = inr (ih m)
 
+-- which rises where no two rank alike
 pub in-order-rises : (l : List Order) → Apart l → Rising (inOrder l)
 unfolding inOrder
 in-order-rises [] a = tt
 in-order-rises (x ∷ l) a = insert-rises x (inOrder l) (in-order-rises l (a .1)) (λ y m. a .0 y (in-order-mem y l m))
 
+-- ---- lists one after the other
+
+-- rising lists, the second above the first
 pub rising-append : (s t : List Order) → Rising s → Rising t → ((x y : Order) → Mem x s → Mem y t → rank x < rank y) → Rising (s ++ t)
 rising-append [] t r q h = q
 rising-append (x ∷ s) t r q h = (λ y m. go y (mem-append y s t m), rising-append s t (r .1) q (λ a b m n. h a b (inr m) n))
@@ -91,6 +102,7 @@ rising-append (x ∷ s) t r q h = (λ y m. go y (mem-append y s t m), rising-app
     go y (inl m) = r .0 y m
     go y (inr m) = h x y (inl refl) m
 
+-- lists of orders that rank apart, also from each other's
 pub apart-append : (s t : List Order) → Apart s → Apart t → ((x y : Order) → Mem x s → Mem y t → rank x ≢ rank y) → Apart (s ++ t)
 apart-append [] t r q h = q
 apart-append (x ∷ s) t r q h = (λ y m. go y (mem-append y s t m), apart-append s t (r .1) q (λ a b m n. h a b (inr m) n))
@@ -99,7 +111,9 @@ apart-append (x ∷ s) t r q h = (λ y m. go y (mem-append y s t m), apart-appen
     go y (inl m) = r .0 y m
     go y (inr m) = h x y (inl refl) m
 
--- a strictly sorted list that is closed downwards in another begins it
+-- ---- beginnings
+
+-- a rising list begins another that has its members, where it has all of the other's that rank below one of its own
 pub begins : (s l : List Order) → Rising s → Rising l
     → ((x : Order) → Mem x s → Mem x l)
     → ((x y : Order) → Mem x s → Mem y l → rank y < rank x → Mem y s)
@@ -132,12 +146,13 @@ begins (x ∷ s) (y ∷ l) r q sub down =
     cons : Begins s l → Begins (x ∷ s) (y ∷ l)
     cons b = (b .0, cc (eq, b .1))
 
+-- of a rising list, what comes later ranks above
 pub rising-split : (s t : List Order) (x y : Order) → Rising (s ++ t) → Mem x s → Mem y t → rank x < rank y
 rising-split [] t x y r m n = absurd m
 rising-split (z ∷ s) t x y r (inl e) n = rw e (r .0 y (mem-right y s t n))
 rising-split (z ∷ s) t x y r (inr m) n = rising-split s t x y (r .1) m n
 
--- two strictly sorted lists with the same members are one
+-- two rising lists with the same members are one
 pub unique : (s l : List Order) → Rising s → Rising l → ((x : Order) → Mem x s → Mem x l) → ((x : Order) → Mem x l → Mem x s) → s ≡ l
 unique s l r q sub sup = go (begins s l r q sub (λ x y m n h. sup y n))
   where

@@ -7,7 +7,8 @@ use native.Mathlib.Omega.{arith}
 use Rattle.laws.proofs.TestLaws.{same-or-not, not-both}
 use Rattle.model.proofs.Functions.{upd, upd-same, upd-other, upd-case, upd2, upd2-same, upd2-keep, upd2-case}
 use Rattle.model.proofs.Model.{Frame, Post, Roles, Yard, orderOf, deliver, entriesFrame, ordered, orderDone}
-use Rattle.model.proofs.Invariants.{RolesOk, Posts, stampOf, wordOf, Holds, Knows, LogOk, SelfOk, FrameOk, YardOk, Grew, holds-grew, shut-grew, shut-later, frame-grew, Grows, grew}
+use Rattle.model.proofs.Invariants.{RolesOk, Posts, stampOf, wordOf, Holds, Knows, LogOk, SelfOk, FrameOk, YardOk, Grew, holds-grew, no-more-grew}
+use Rattle.model.proofs.Invariants.{no-more-later, frame-grew, Grows, grew}
 use Rattle.model.proofs.Entries.{broadcast-ok}
 use Rattle.model.proofs.Changes.{Next, changed, older-frames, one-more-frame, newest-or-old, take-log}
 
@@ -114,14 +115,14 @@ order-ok R ro Y p w b present room y =
       lastSent = λ i. last i (same-or-not i p);
       stampsTrue = λ i n a l. stamp i n a l (same-or-not i p);
       wordsTrue = λ i n a l. word i n a l (same-or-not i p);
-      loggedShut = λ x m i c. shut-later X (P .last i) (Q .last i) (x .stamp) i (later i)
-          (shut-grew (Y .posts) X gr (P .last i) (x .stamp) i (kp .loggedShut x m i c));
+      loggedNoMore = λ x m i c. no-more-later X (P .last i) (Q .last i) (x .stamp) i (later i)
+          (no-more-grew (Y .posts) X gr (P .last i) (x .stamp) i (kp .loggedNoMore x m i c));
     }
 
     -- its log stays in order: the clock has passed all that is logged
     lg : LogOk Q
     lg = take-log P (y .postsOk p .logOk) p (suc (P .own)) (suc (P .clock)) w (omega (arith, sp .ownTaken))
-        (λ x m. omega (arith, kp .loggedShut x m p b .clockPast)) (Q .clock) (Q .own) (Q .table)
+        (λ x m. omega (arith, kp .loggedNoMore x m p b .clockPast)) (Q .clock) (Q .own) (Q .table)
 
     -- its broadcast carries the order
     fo : FrameOk R X f

@@ -12,7 +12,7 @@ use Rattle.roll.specs.Logs.{inOrder}
 use Rattle.model.proofs.Functions.{le-or-not}
 use Rattle.model.proofs.Model.{Post, Roles, Yard, orderOf, ready, run, postsHear, beaconsSent, sourcesBelow, postsHearBeacons, rollSteps}
 use Rattle.model.proofs.OrderLists.{in-order-mem, in-order-rises, unique}
-use Rattle.model.proofs.Invariants.{RolesOk, source-below, Posts, stampOf, YardOk}
+use Rattle.model.proofs.Invariants.{RolesOk, source-below, Posts, stampOf, Sent, Knows, YardOk}
 use Rattle.model.proofs.Delivery.{le-ready}
 use Rattle.model.proofs.Steps.{run-append}
 use Rattle.model.proofs.SentOrders.{sent-eq, Lists, run-lists, log-begins}
@@ -38,15 +38,18 @@ module _ (R : Roles) (ro : RolesOk R) where
     Y₃ : Yard
     Y₃ = run R Y₂ (postsHearBeacons R (Y₁ .frames) 8)
 
+    -- together they are the call
     roll-is : run R Y (rollSteps R Y) ≡ Y₃
     unfolding rollSteps Y₁ Y₂ Y₃
     roll-is = run-append R Y (postsHear R Y 8) (beaconsSent R 8 ++ postsHearBeacons R (run R Y (postsHear R Y 8) .frames) 8)
         ∙ run-append R Y₁ (beaconsSent R 8) (postsHearBeacons R (Y₁ .frames) 8)
 
+    -- no order is sent in the first
     since₁ : Since R Y Y₁
     unfolding Y₁
     since₁ = since-run R ro Y Y (postsHear R Y 8) (posts-no-order R Y 8) (since-itself R ro Y y a)
 
+    -- nor in the second
     since₂ : Since R Y₁ Y₂
     unfolding Y₂
     since₂ = since-run R ro Y₁ Y₁ (beaconsSent R 8) (beacons-no-order R 8) (since-itself R ro Y₁ (since₁ .sinceOk) (since₁ .sinceAir))
@@ -80,23 +83,29 @@ module _ (R : Roles) (ro : RolesOk R) where
     -- ---- after the hearings of the beacons, where there is room for them
 
     module _ (room : Y₁ .beacons + sourcesBelow R 8 ≤ 1024) where
+      -- each source sent its beacon
       sent₂ : Beaconed R Y₁ Y₂ 8
       unfolding Y₂
       sent₂ = beaconed R ro Y₁ (since₁ .sinceOk) room 8 (omega arith)
 
+      -- there nothing was heard since
       still₂ : OnlyBeacons R Y₂ Y₂
       still₂ = only-itself R ro Y₂ (since₂ .sinceOk) (since₂ .sinceAir)
 
+      -- after that only beacons were heard
       only₃ : OnlyBeacons R Y₂ Y₃
       unfolding Y₃
       only₃ = posts-only R ro Y₁ Y₂ sent₂ still₂ 8
 
+      -- so own serials are as after the first part
       own₃ : (i : ℕ) → Y₃ .posts i .own ≡ Y₁ .posts i .own
       own₃ i = only₃ .sameOwn i ∙ ap (λ (W : Posts). W i .own) (sent₂ .postsSame)
 
+      -- orders taken too
       last₃ : (p i : ℕ) → R .present p ≡ true → Y₃ .posts p .last i ≡ Y₁ .posts i .own
       last₃ p i b = ap (λ (f : ℕ → ℕ). f i) (only₃ .sameLast p) ∙ ap (λ (W : Posts). W p .last i) (sent₂ .postsSame) ∙ full p i b
 
+      -- and stamps
       stamp₃ : (p i n : ℕ) → Y₃ .posts p .stamps i n ≡ Y₁ .posts p .stamps i n
       stamp₃ p i n = ap (λ (f : ℕ → ℕ → ℕ). f i n) (only₃ .sameStamps p) ∙ ap (λ (W : Posts). W p .stamps i n) (sent₂ .postsSame)
 
@@ -145,16 +154,24 @@ module _ (R : Roles) (ro : RolesOk R) where
 
           sup : (x : Order) → Mem x S → Mem x (P .log)
           sup x m =
-              let s = l .listedSent x m in
-              let k = only₃ .thenOk .postsOk p .knows in
-              let h : x .serial ≤ P .last (x .lane) = omega (arith, s .wasSent, own₃ (x .lane), last₃ p (x .lane) (ro .destsPresent p d)) in
-              let e : x ≡ orderOf P (x .lane) (x .serial)
-                  = sent-eq (Y₃ .posts) x s
-                  ∙ rw (k .stampsTrue (x .lane) (x .serial) (s .fromOne) h, k .wordsTrue (x .lane) (x .serial) (s .fromOne) h) refl in
-              rw e (all-logged p d (x .lane) (x .serial) (l .listedLane x m) (s .fromOne) (omega (arith, s .wasSent, own₃ (x .lane))))
+              rw kept (all-logged p d (x .lane) (x .serial) (l .listedLane x m) (s .fromOne) (omega (arith, s .wasSent, own₃ (x .lane))))
+            where
+              s : Sent (Y₃ .posts) x
+              s = l .listedSent x m
+
+              k : Knows R (Y₃ .posts) P
+              k = only₃ .thenOk .postsOk p .knows
+
+              h : x .serial ≤ P .last (x .lane)
+              h = omega (arith, s .wasSent, own₃ (x .lane), last₃ p (x .lane) (ro .destsPresent p d))
+
+              kept : x ≡ orderOf P (x .lane) (x .serial)
+              kept = sent-eq (Y₃ .posts) x s
+                  ∙ rw (k .stampsTrue (x .lane) (x .serial) (s .fromOne) h, k .wordsTrue (x .lane) (x .serial) (s .fromOne) h) refl
 
   -- ---- the whole call
 
+  -- where there is room for the beacons, every destination's log is the list of all orders sent
   pub roll-logs : (Y : Yard) (S : List Order) → YardOk R Y → AirOk Y → Lists (Y .posts) S → Y .beacons + sourcesBelow R 8 ≤ 1024
       → (p : ℕ) → R .dest p ≡ true → run R Y (rollSteps R Y) .posts p .log ≡ inOrder S
   roll-logs Y S y a l enough p d = rw (roll-is Y y a) (log-is Y y a room S lists p d)

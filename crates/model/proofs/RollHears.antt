@@ -12,8 +12,8 @@ use Rattle.yard.specs.Worlds.{Single, order, hear, beacon}
 use Rattle.model.proofs.Functions.{upd-same}
 use Rattle.model.proofs.Model.{Frame, Roles, Yard, hearRefused, hearDone, step, run, laneHears, lanesHears, postsHear}
 use Rattle.model.proofs.Invariants.{RolesOk, YardOk}
-use Rattle.model.proofs.Hearing.{IsNext, hear-ways, hear-own, hear-beacons}
-use Rattle.model.proofs.Steps.{hear-fine, hearing-ways, beacon-ways, step-hear, step-ok, run-append}
+use Rattle.model.proofs.Hearing.{IsNext, taken-or-not, hear-own, hear-beacons}
+use Rattle.model.proofs.Steps.{hear-fine, hear-or-refused, beacon-or-refused, step-hear, step-ok, run-append}
 use Rattle.model.proofs.Air.{IsOf, First, AirOk, first-later, step-air}
 use Rattle.model.proofs.RollLists.{Each, each-cond, IsHear, NoOrder, lane-no-order, lanes-no-order, posts-no-order}
 
@@ -43,8 +43,8 @@ module _ (R : Roles) (ro : RolesOk R) where
   -- a hearing or a beacon leaves all own serials
   own-stays : (Y : Yard) (s : Single) → NoOrder s → (i : ℕ) → step R Y s .posts i .own ≡ Y .posts i .own
   own-stays Y (order p w) m i = absurd m
-  own-stays Y (hear p k) m i = hearing-ways R Y (λ Z. Z .posts i .own ≡ Y .posts i .own) p k (λ e. hear-own R Y p (Y .air k) i) refl
-  own-stays Y (beacon p) m i = beacon-ways R Y (λ Z. Z .posts i .own ≡ Y .posts i .own) p (λ e. refl) refl
+  own-stays Y (hear p k) m i = hear-or-refused R Y (λ Z. Z .posts i .own ≡ Y .posts i .own) p k (λ e. hear-own R Y p (Y .air k) i) refl
+  own-stays Y (beacon p) m i = beacon-or-refused R Y (λ Z. Z .posts i .own ≡ Y .posts i .own) p (λ e. refl) refl
 
   -- one step more
   since-step : (Y Z : Yard) (s : Single) → NoOrder s → Since R Y Z → Since R Y (step R Z s)
@@ -75,14 +75,14 @@ module _ (R : Roles) (ro : RolesOk R) where
   hears-beacons Y (hear p k ∷ l) h = hears-beacons (step R Y (hear p k)) l (h .1) ∙ one
     where
       one : step R Y (hear p k) .beacons ≡ Y .beacons
-      one = hearing-ways R Y (λ Z. Z .beacons ≡ Y .beacons) p k (λ e. hear-beacons R Y p (Y .air k)) refl
+      one = hear-or-refused R Y (λ Z. Z .beacons ≡ Y .beacons) p k (λ e. hear-beacons R Y p (Y .air k)) refl
   hears-beacons Y (beacon p ∷ l) h = absurd (h .0)
 
   -- ---- one hearing
 
   -- of the order with the serial after n: it is taken where n was, if it was not there before
   hear-last : (Y : Yard) (p : ℕ) (f : Frame) (i n : ℕ) → IsOf f i (suc n) → n ≤ Y .posts p .last i → suc n ≤ hearDone R Y p f .posts p .last i
-  hear-last Y p f i n e l = hear-ways (λ Z. suc n ≤ Z .posts p .last i) R Y p f
+  hear-last Y p f i n e l = taken-or-not (λ Z. suc n ≤ Z .posts p .last i) R Y p f
       (λ x. rw (upd-same (Y .posts), e .1, upd-same (Y .posts p .last)) (omega (arith, e .2)))
       (λ x. rw (upd-same (Y .posts)) (there x))
     where

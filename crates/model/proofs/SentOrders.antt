@@ -17,7 +17,7 @@ use Rattle.model.proofs.Model.{Frame, Post, Roles, Yard, orderOf, order
 use Rattle.model.proofs.OrderLists.{Apart, mem-in-order, in-order-mem, in-order-rises, apart-append, begins}
 use Rattle.model.proofs.Invariants.{RolesOk, source-below, Posts, stampOf, wordOf, Sent, Knows, LogOk, YardOk, sends-source, Grew, sent-grew}
 use Rattle.model.proofs.Hearing.{hear-own}
-use Rattle.model.proofs.Steps.{order-pass, hearing-ways, beacon-ways, step-ok}
+use Rattle.model.proofs.Steps.{order-pass, hear-or-refused, beacon-or-refused, step-ok}
 
 -- an order sent, as its own post keeps it
 pub sent-eq : (W : Posts) (x : Order) → Sent W x → x ≡ orderOf (W (x .lane)) (x .lane) (x .serial)
@@ -113,8 +113,8 @@ module _ (R : Roles) (ro : RolesOk R) where
       rw append-nil (lists-same (Y .posts) (step R Y (hear p k) .posts) (step-ok R ro Y (hear p k) y .postsGrew) same S l)
     where
       same : (i : ℕ) → step R Y (hear p k) .posts i .own ≡ Y .posts i .own
-      same i = hearing-ways R Y (λ Z. Z .posts i .own ≡ Y .posts i .own) p k (λ e. hear-own R Y p (Y .air k) i) refl
-  step-lists Y (beacon p) y S l = rw append-nil (beacon-ways R Y (λ Z. Lists (Z .posts) S) p (λ e. l) l)
+      same i = hear-or-refused R Y (λ Z. Z .posts i .own ≡ Y .posts i .own) p k (λ e. hear-own R Y p (Y .air k) i) refl
+  step-lists Y (beacon p) y S l = rw append-nil (beacon-or-refused R Y (λ Z. Lists (Z .posts) S) p (λ e. l) l)
 
   -- a list of them
   pub run-lists : (Y : Yard) (l : List Single) → YardOk R Y → (S : List Order) → Lists (Y .posts) S → Lists (run R Y l .posts) (S ++ sent R Y l)
@@ -125,6 +125,7 @@ module _ (R : Roles) (ro : RolesOk R) where
 
   -- ---- each log begins the list of orders sent, by stamp and then lane
 
+  -- and that of any post, destination or not
   pub log-begins : (Y : Yard) → YardOk R Y → (S : List Order) → Lists (Y .posts) S → (p : ℕ) → Begins (Y .posts p .log) (inOrder S)
   log-begins Y y S l p = begins (P .log) (inOrder S) (lo .logRises) (in-order-rises S (l .listedApart))
       (λ x m. mem-in-order x S (sub x m)) (λ x z m n h. down x z m (in-order-mem z S n) h)
@@ -147,7 +148,7 @@ module _ (R : Roles) (ro : RolesOk R) where
           rw (t .asKept ∙ known (x .lane) (x .serial) (t .serialFromOne) (t .serialTaken))
           (l .allListed (x .lane) (x .serial) (t .serialFromOne) (omega (arith, t .serialTaken, kn .lastSent (x .lane))))
 
-      -- what was sent and ranks below something logged is logged: it was taken, its lane being shut
+      -- what was sent and ranks below something logged is logged: it was taken, as its lane sends no more up to that
       down : (x z : Order) → Mem x (P .log) → Mem z S → rank z < rank x → Mem z (P .log)
       down x z m n h = go (le-or-not (z .serial) (P .last (z .lane)))
         where
@@ -168,7 +169,7 @@ module _ (R : Roles) (ro : RolesOk R) where
             arith,
             s .stampIs,
             lo .logTaken x m .laneBelow,
-            kn .loggedShut x m (z .lane) source .laterAbove (z .serial) a (s .wasSent),
+            kn .loggedNoMore x m (z .lane) source .laterAbove (z .serial) a (s .wasSent),
           ))
 
 -- ---- a fresh yard
@@ -193,7 +194,7 @@ fresh-ok R air = record {
       lastSent = λ i. omega arith;
       stampsTrue = λ i n b c. refl;
       wordsTrue = λ i n b c. refl;
-      loggedShut = λ x m. absurd m;
+      loggedNoMore = λ x m. absurd m;
     };
     logOk = record { logRises = tt; logTaken = λ x m. absurd m; logClosed = λ x z m. absurd m };
     served = λ d i n b c e. absurd (omega arith);

@@ -10,7 +10,8 @@ use borrow.Author.Tests.{eqb-true, eqb-false, ne-eqb, leb-false, lt-leb, ltb-fal
 use Rattle.laws.proofs.TestLaws.{not-both}
 use Rattle.laws.proofs.ListLaws.{Begins, begins-itself, begins-on}
 use Rattle.yard.specs.Worlds.{Single, order, hear, beacon}
-use Rattle.model.proofs.Model.{Frame, Roles, Yard, entriesFrame, noOrder, orderRefused, hearRefused, beaconRefused, orderDone, beaconDone, hearDone, step, run}
+use Rattle.model.proofs.Model.{Frame, Roles, Yard, entriesFrame, noOrder, orderRefused, hearRefused, beaconRefused, orderDone, beaconDone, hearDone}
+use Rattle.model.proofs.Model.{step, run}
 use Rattle.model.proofs.Invariants.{RolesOk, YardOk, grew-itself}
 use Rattle.model.proofs.Entries.{broadcast-ok}
 use Rattle.model.proofs.Changes.{Next, stay, older-frames, one-more-frame}
@@ -76,24 +77,27 @@ if-zero C n A B f g = go (eqb n 0) refl
     go false e = g
 
 module _ (R : Roles) (Y : Yard) where
-  -- what holds after the step done, and of the yard as it was, holds after the step
-  pub order-ways : (C : Yard → Type 0) (p w : ℕ) → (orderRefused R Y p w ≡ 0 → C (orderDone R Y p w)) → C Y → C (step R Y (order p w))
+  -- what holds after the step done, and of the yard as it was, holds after the step: of an order
+  pub order-or-refused : (C : Yard → Type 0) (p w : ℕ) → (orderRefused R Y p w ≡ 0 → C (orderDone R Y p w)) → C Y → C (step R Y (order p w))
   unfolding step
-  order-ways C p w = if-zero C (orderRefused R Y p w) (orderDone R Y p w) Y
+  order-or-refused C p w = if-zero C (orderRefused R Y p w) (orderDone R Y p w) Y
 
-  pub hearing-ways : (C : Yard → Type 0) (p k : ℕ) → (hearRefused R Y p k ≡ 0 → C (hearDone R Y p (Y .air k))) → C Y → C (step R Y (hear p k))
+  -- of a hearing
+  pub hear-or-refused : (C : Yard → Type 0) (p k : ℕ) → (hearRefused R Y p k ≡ 0 → C (hearDone R Y p (Y .air k))) → C Y → C (step R Y (hear p k))
   unfolding step
-  hearing-ways C p k = if-zero C (hearRefused R Y p k) (hearDone R Y p (Y .air k)) Y
+  hear-or-refused C p k = if-zero C (hearRefused R Y p k) (hearDone R Y p (Y .air k)) Y
 
-  pub beacon-ways : (C : Yard → Type 0) (p : ℕ) → (beaconRefused R Y p ≡ 0 → C (beaconDone R Y p)) → C Y → C (step R Y (beacon p))
+  -- of a beacon
+  pub beacon-or-refused : (C : Yard → Type 0) (p : ℕ) → (beaconRefused R Y p ≡ 0 → C (beaconDone R Y p)) → C Y → C (step R Y (beacon p))
   unfolding step
-  beacon-ways C p = if-zero C (beaconRefused R Y p) (beaconDone R Y p) Y
+  beacon-or-refused C p = if-zero C (beaconRefused R Y p) (beaconDone R Y p) Y
 
-  -- a step that is not refused is done
+  -- a hearing that is not refused is done
   pub step-hear : (p k : ℕ) → hearRefused R Y p k ≡ 0 → step R Y (hear p k) ≡ hearDone R Y p (Y .air k)
   unfolding step
   step-hear p k e = rw e refl
 
+  -- and a beacon
   pub step-beacon : (p : ℕ) → beaconRefused R Y p ≡ 0 → step R Y (beacon p) ≡ beaconDone R Y p
   unfolding step
   step-beacon p e = rw e refl
@@ -123,11 +127,11 @@ beacon-ok R Y p present y = record {
 module _ (R : Roles) (ro : RolesOk R) where
   -- a step, refused or not
   pub step-ok : (Y : Yard) (s : Single) → YardOk R Y → Next R Y (step R Y s)
-  step-ok Y (order p w) y = order-ways R Y (λ Z. Next R Y Z) p w
+  step-ok Y (order p w) y = order-or-refused R Y (λ Z. Next R Y Z) p w
       (λ e. let q = order-pass R Y p w e in order-ok R ro Y p w (q .2) (q .1) (q .3) y) (stay R Y y)
-  step-ok Y (hear p k) y = hearing-ways R Y (λ Z. Next R Y Z) p k
+  step-ok Y (hear p k) y = hear-or-refused R Y (λ Z. Next R Y Z) p k
       (λ e. let q = hear-pass R Y p k e in hear-ok R ro Y p (Y .air k) (q .1) (y .framesOk k (q .2)) y) (stay R Y y)
-  step-ok Y (beacon p) y = beacon-ways R Y (λ Z. Next R Y Z) p (λ e. beacon-ok R Y p (beacon-pass R Y p e .1) y) (stay R Y y)
+  step-ok Y (beacon p) y = beacon-or-refused R Y (λ Z. Next R Y Z) p (λ e. beacon-ok R Y p (beacon-pass R Y p e .1) y) (stay R Y y)
 
   -- a list of them
   pub run-ok : (Y : Yard) (l : List Single) → YardOk R Y → YardOk R (run R Y l)
@@ -153,15 +157,18 @@ module _ (R : Roles) (ro : RolesOk R) where
 -- ---- lists of steps run one after another
 
 module _ (R : Roles) where
+  -- a list and then another
   pub run-append : (Y : Yard) (l m : List Single) → run R Y (l ++ m) ≡ run R (run R Y l) m
   unfolding run
   run-append Y [] m = refl
   run-append Y (s ∷ l) m = run-append (step R Y s) l m
 
+  -- no step
   pub run-none : (Y : Yard) → run R Y [] ≡ Y
   unfolding run
   run-none Y = refl
 
+  -- one step
   pub run-one : (Y : Yard) (s : Single) → run R Y (s ∷ []) ≡ step R Y s
   unfolding run
   run-one Y s = refl

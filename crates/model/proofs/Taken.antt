@@ -145,29 +145,30 @@ taken-mem P (suc k) x m = go (mem-append x (laneOrders P k (P .last k)) (takenBe
 
 -- ---- their stamps rise with the serial
 
-abbrev pub Climbs : Post → Type 0
-Climbs P = (i n : ℕ) → 0 < n → n < P .last i → P .stamps i n < P .stamps i (suc n)
+-- from each order taken of a lane to the next
+abbrev pub KeptRise : Post → Type 0
+KeptRise P = (i n : ℕ) → 0 < n → n < P .last i → P .stamps i n < P .stamps i (suc n)
 
 -- also over several serials
-pub climb : (P : Post) → Climbs P → (i n m : ℕ) → 0 < n → n < m → m ≤ P .last i → P .stamps i n < P .stamps i m
-climb P c i n zero a b d = absurd (omega arith)
-climb P c i n (suc m) a b d = go (same-or-not n m) (climb P c i n m)
+pub kept-rise : (P : Post) → KeptRise P → (i n m : ℕ) → 0 < n → n < m → m ≤ P .last i → P .stamps i n < P .stamps i m
+kept-rise P c i n zero a b d = absurd (omega arith)
+kept-rise P c i n (suc m) a b d = go (same-or-not n m) (kept-rise P c i n m)
   where
     go : (n ≡ m) ⊎ (n ≢ m) → (0 < n → n < m → m ≤ P .last i → P .stamps i n < P .stamps i m) → P .stamps i n < P .stamps i (suc m)
     go (inl e) ih = rw e (c i m (omega arith) (omega arith))
     go (inr e) ih = omega (arith, ih (omega arith) (omega arith) (omega arith), c i m (omega arith) (omega arith))
 
 -- so the orders of a lane rank apart
-apart-lane : (P : Post) → Climbs P → (i k : ℕ) → k ≤ P .last i → Apart (laneOrders P i k)
+apart-lane : (P : Post) → KeptRise P → (i k : ℕ) → k ≤ P .last i → Apart (laneOrders P i k)
 unfolding laneOrders
 apart-lane P c i zero h = tt
 apart-lane P c i (suc k) h = (λ y m. go y (lane-mem P i k y m), apart-lane P c i k (omega arith))
   where
     go : (y : Order) → ((n : ℕ) × (0 < n) × (n ≤ k) × (y ≡ orderOf P i n)) → rank (orderOf P i (suc k)) ≢ rank y
-    go y r e = omega (arith, climb P c i (r .0) (suc k) (r .1) (omega (arith, r .2)) h, rw (r .3) at e)
+    go y r e = omega (arith, kept-rise P c i (r .0) (suc k) (r .1) (omega (arith, r .2)) h, rw (r .3) at e)
 
 -- and those of all lanes
-pub apart-taken : (P : Post) → Climbs P → (k : ℕ) → k ≤ 8 → Apart (takenBelow P k)
+pub apart-taken : (P : Post) → KeptRise P → (k : ℕ) → k ≤ 8 → Apart (takenBelow P k)
 unfolding takenBelow
 apart-taken P c zero h = tt
 apart-taken P c (suc k) h =
@@ -180,7 +181,7 @@ apart-taken P c (suc k) h =
         omega (arith, taken-mem P k y n .laneBelow)
 
 -- orders taken that rank alike are one
-pub same-rank : (P : Post) → Climbs P → (x y : Order) → TakenIn P 8 x → TakenIn P 8 y → rank x ≡ rank y → x ≡ y
+pub same-rank : (P : Post) → KeptRise P → (x y : Order) → TakenIn P 8 x → TakenIn P 8 y → rank x ≡ rank y → x ≡ y
 same-rank P c x y s t h = s .asKept ∙ go (le-or-not (x .serial) (y .serial)) (le-or-not (y .serial) (x .serial)) ∙ sym (t .asKept)
   where
     lanes : x .lane ≡ y .lane
@@ -198,5 +199,5 @@ same-rank P c x y s t h = s .asKept ∙ go (le-or-not (x .serial) (y .serial)) (
     go : (x .serial ≤ y .serial) ⊎ (y .serial < x .serial) → (y .serial ≤ x .serial) ⊎ (x .serial < y .serial)
         → orderOf P (x .lane) (x .serial) ≡ orderOf P (y .lane) (y .serial)
     go (inl a) (inl b) = let e : x .serial ≡ y .serial = omega arith in rw (lanes, e) refl
-    go (inl a) (inr b) = absurd (omega (arith, climb P c (x .lane) (x .serial) (y .serial) (s .serialFromOne) b ly, sx, sy, lanes))
-    go (inr a) b = absurd (omega (arith, climb P c (x .lane) (y .serial) (x .serial) (t .serialFromOne) a (s .serialTaken), sx, sy, lanes))
+    go (inl a) (inr b) = absurd (omega (arith, kept-rise P c (x .lane) (x .serial) (y .serial) (s .serialFromOne) b ly, sx, sy, lanes))
+    go (inr a) b = absurd (omega (arith, kept-rise P c (x .lane) (y .serial) (x .serial) (t .serialFromOne) a (s .serialTaken), sx, sy, lanes))

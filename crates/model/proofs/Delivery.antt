@@ -8,12 +8,12 @@ use Prim.Native.Nat.{ℕ, zero, suc, _≤_, _<_}
 use native.Mathlib.Omega.{arith}
 use lib.Dec.{leb}
 use borrow.Author.Tests.{leb-true, le-leb, not-true}
-use Rattle.laws.proofs.TestLaws.{same-or-not, not-both, and-parts, and-made}
+use Rattle.laws.proofs.TestLaws.{same-or-not, not-both, and-parts, and-made, or-second}
 use Rattle.laws.proofs.ListLaws.{Mem, mem-left, mem-right, mem-append, Begins, begins-itself}
 use Rattle.roll.specs.Runs.{Order}
 use Rattle.roll.specs.Logs.{rank, inOrder}
 use Rattle.model.proofs.Functions.{le-or-not}
-use Rattle.model.proofs.Model.{Post, Roles, orderOf, takenBelow, has, ready, due, newLog, deliver}
+use Rattle.model.proofs.Model.{Post, Roles, orderOf, takenBelow, has, agrees, ready, due, newLog, deliver}
 use Rattle.model.proofs.OrderLists.{Apart, mem-in-order, in-order-mem, in-order-rises, rising-append}
 use Rattle.model.proofs.Invariants.{RolesOk, source-below, Posts, stampOf, Holds, NoMore, Knows, TakenIn, LogOk, Served, SelfOk}
 use Rattle.model.proofs.Taken.{below-all, all-below, mem-those, those-mem, apart-those, has-mem, mem-has, mem-taken, taken-mem, KeptRise}
@@ -22,23 +22,28 @@ use Rattle.model.proofs.Taken.{apart-taken, same-rank}
 module _ (R : Roles) where
   -- ---- an order with stamp t is ready
 
-  -- then every source's entry at the last order taken of its lane has reached t
+  -- a source agrees where its entry at the last order taken of its lane has reached t
+  agree-le : (P : Post) (t i : ℕ) → agrees R P t i ≡ true → R .source i ≡ true → t ≤ P .table i (P .last i)
+  unfolding agrees
+  agree-le P t i e s = leb-true t (P .table i (P .last i)) (or-second (not (R .source i)) (leb t (P .table i (P .last i))) e (ap not s))
+
+  le-agree : (P : Post) (t i : ℕ) → (R .source i ≡ true → t ≤ P .table i (P .last i)) → agrees R P t i ≡ true
+  unfolding agrees
+  le-agree P t i h = go (R .source i) refl
+    where
+      go : (b : Bool) → R .source i ≡ b → not b || leb t (P .table i (P .last i)) ≡ true
+      go true e = le-leb t (P .table i (P .last i)) (h e)
+      go false e = refl
+
+  -- then every source's entry has reached t
   pub ready-le : (P : Post) (t : ℕ) → ready R P t ≡ true → (i : ℕ) → i < 8 → R .source i ≡ true → t ≤ P .table i (P .last i)
   unfolding ready
-  ready-le P t e i l s = go (R .source i) s (all-below (λ i. not (R .source i) || leb t (P .table i (P .last i))) 8 e i l)
-    where
-      go : (b : Bool) → b ≡ true → not b || leb t (P .table i (P .last i)) ≡ true → t ≤ P .table i (P .last i)
-      go true p q = leb-true t (P .table i (P .last i)) q
-      go false p q = absurd (not-both false p refl)
+  ready-le P t e i l s = agree-le P t i (all-below (agrees R P t) 8 e i l) s
 
   -- and the other way round
   pub le-ready : (P : Post) (t : ℕ) → ((i : ℕ) → i < 8 → R .source i ≡ true → t ≤ P .table i (P .last i)) → ready R P t ≡ true
   unfolding ready
-  le-ready P t h = below-all (λ i. not (R .source i) || leb t (P .table i (P .last i))) 8 (λ i l. go i l (R .source i) refl)
-    where
-      go : (i : ℕ) → i < 8 → (b : Bool) → R .source i ≡ b → not b || leb t (P .table i (P .last i)) ≡ true
-      go i l true e = le-leb t (P .table i (P .last i)) (h i l e)
-      go i l false e = refl
+  le-ready P t h = below-all (agrees R P t) 8 (λ i l. le-agree P t i (h i l))
 
   -- a lower stamp is ready too
   pub ready-down : (P : Post) (t u : ℕ) → u ≤ t → ready R P t ≡ true → ready R P u ≡ true
@@ -153,7 +158,7 @@ module _ (R : Roles) where
 
   -- and leaves nothing ready behind
   pub deliver-served : (p : ℕ) (P : Post) → LogOk P → Served R p (deliver R p P)
-  unfolding ready
+  unfolding ready agrees
   deliver-served p P o = newLog-case (λ l. Served R p (withLog P l)) p P
       (λ e d i n a b c r. put i n (served-or-due P o i n a b c r)) (λ e d. absurd (not-both (R .dest p) d e))
     where

@@ -84,8 +84,12 @@ has i n [] = false
 has i n (x ∷ l) = (eqb (x .lane) i && eqb (x .serial) n) || has i n l
 
 module _ (R : Roles) where
+  -- lane i, if it is a source, agrees to the delivery of stamp t
+  unfoldable pub agrees : Post → ℕ → ℕ → Bool
+  agrees P t i = not (R .source i) || leb t (P .table i (P .last i))
+
   unfoldable pub ready : Post → ℕ → Bool
-  ready P t = allBelow 8 (λ i. not (R .source i) || leb t (P .table i (P .last i)))
+  ready P t = allBelow 8 (agrees P t)
 
   unfoldable pub due : Post → List Order
   due P = those (λ o. ready P (o .stamp) && not (has (o .lane) (o .serial) (P .log))) (takenBelow P 8)

@@ -1,0 +1,5 @@
+pub mod PartWays
+pub mod FreshWays
+pub mod OrderWays
+pub mod HearWays
+pub mod BeaconWays

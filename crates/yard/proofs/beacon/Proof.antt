@@ -1,0 +1,13 @@
+use Rattle.yard.proofs.BeaconWays.{beacon-stranger, beacon-runs}
+use borrow.Author.Needs.{needs}
+use Rattle.yard.proofs.beacon.Statement.{statement}
+use Rattle.yard.proofs.beacon.Tie as tie
+
+returns : tie.Need-returns
+returns c = beacon-stranger _ _ _ (c .if1 .taken)
+
+returns-2 : tie.Need-returns-2
+returns-2 c = beacon-runs _ _ _ _ _ (c .before .before .before .before .before .if1 .left) (c .before .before .post-beacons .ensures .0) (c .before .before .post-beacons .ensures .1)
+
+pub beacon-spec : {M : Type 1} → statement M
+beacon-spec = tie.close (tie.spec returns (λ c. search needs) (λ c. search needs) (λ c κs. search needs) (λ c. search needs) returns-2)

@@ -135,6 +135,7 @@ module _ (present sources dests : ℕ) where
         ∙ ap (λ (i : ℕ). model.entriesFrame false i (sentOrder word (p .lane) (p .serial .0 + 1) (p .clock .0 + 1)) (postView q)) (q-in-yard .itsLane)
         ∙ ap (λ (o : Order). model.entriesFrame false lane o (postView q)) (carried ∙ order-carried (postView p) lane word)
         ∙ ap (model.entriesFrame false lane (model.orderOf (model.ordered lane word (postView p)) lane (suc (postView p .own)))) view-q
+
     -- the yard after it
     pub order-view : yardView (single w (order lane word)) ≡ model.orderDone R (yardView w) lane word
     order-view = ap yardView (order-is-done .world) ∙ λ t. record {

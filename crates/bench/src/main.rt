@@ -1,10 +1,14 @@
 // The yard bench of document 01: runs each case and prints what was expected and what came.
-// proofs/Table.antt proves the same cases of the definitions, in one joint table.
+// crates/table proves the same cases of the definitions, in one joint table.
 mod frames;
 mod posts;
 mod printing;
+mod refusals;
+mod telling;
+mod yards;
 
 fn main() {
+    in_a_yard();
     posts::printed_script();
     frames::frame_written();
     posts::heard_out_of_order();
@@ -12,4 +16,17 @@ fn main() {
     frames::entries_judged();
     frames::lengths_judged();
     posts::limits();
+}
+
+fn in_a_yard() {
+    yards::printed_script();
+    yards::heard_out_of_order();
+    yards::called_after_line_6();
+    yards::one_post();
+    yards::two_posts();
+    yards::heard_again();
+    yards::heard_early();
+    refusals::refused_steps();
+    refusals::seventeen_orders();
+    refusals::many_beacons();
 }

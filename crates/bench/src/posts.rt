@@ -17,16 +17,16 @@ pub(crate) fn printed_script() {
     let p0 = ordered(fresh(0), 417, &mut frame0);
     let p1 = heard(
         b"P1 post 1 hears frame 0",
-        b"taken",
+        b"taken 0",
         fresh(1),
         &frame0,
         &mut frame1,
     );
     let p1 = ordered(p1, 90, &mut frame2);
-    let p2 = listened(b"P1 post 2 hears frame 1", b"taken", fresh(2), &frame1);
+    let p2 = listened(b"P1 post 2 hears frame 1", b"taken 1", fresh(2), &frame1);
     let p0 = heard(
         b"P1 post 0 hears frame 2",
-        b"taken",
+        b"taken 2",
         p0,
         &frame2,
         &mut frame4,
@@ -45,15 +45,15 @@ pub(crate) fn heard_out_of_order() {
     let mut frame0 = [0u8; 32];
     let mut frame2 = [0u8; 32];
     ordered(fresh(0), 417, &mut frame0);
-    let p1 = listened(b"P3 post 1 hears frame 0", b"taken", fresh(1), &frame0);
+    let p1 = listened(b"P3 post 1 hears frame 0", b"taken 0", fresh(1), &frame0);
     ordered(p1, 90, &mut frame2);
     hear_2_before_0(&frame2, &frame0);
 }
 
 fn hear_2_before_0<'a>(frame2: &'a [u8], frame0: &'a [u8]) {
-    let p2 = listened(b"P3 post 2 hears frame 2", b"taken", fresh(2), frame2);
+    let p2 = listened(b"P3 post 2 hears frame 2", b"taken 0", fresh(2), frame2);
     print_log(b"P3 log of post 2", b"", p2);
-    let p2 = listened(b"P3 post 2 hears frame 0", b"taken", p2, frame0);
+    let p2 = listened(b"P3 post 2 hears frame 0", b"taken 1", p2, frame0);
     print_log(b"P3 log of post 2 then", b" (1 0 417)", p2);
 }
 
@@ -68,15 +68,15 @@ pub(crate) fn heard_again_and_early() {
 }
 
 fn hear_twice(first: &[u8]) {
-    let p1 = listened(b"P7 post 1 hears frame 0", b"taken", fresh(1), first);
+    let p1 = listened(b"P7 post 1 hears frame 0", b"taken 0", fresh(1), first);
     print_number(b"P7 clock of post 1", 2, p1.clock.0);
-    let p1 = listened(b"P7 post 1 hears frame 0 again", b"again", p1, first);
+    let p1 = listened(b"P7 post 1 hears frame 0 again", b"again 0", p1, first);
     print_number(b"P7 clock of post 1 then", 2, p1.clock.0);
 }
 
 fn hear_2_before_1<'a>(second: &'a [u8], first: &'a [u8]) {
-    let p1 = listened(b"P8 post 1 hears serial 2", b"early", fresh(1), second);
-    listened(b"P8 post 1 hears serial 1 then", b"taken", p1, first);
+    let p1 = listened(b"P8 post 1 hears serial 2", b"early 0", fresh(1), second);
+    listened(b"P8 post 1 hears serial 1 then", b"taken 0", p1, first);
 }
 
 // P5, its order; sixteen orders and a seventeenth; a clock that has one reading left.

@@ -1,3 +1,4 @@
 pub mod RollCall
+pub mod Loops
 pub mod Runs
 pub mod Logs

@@ -12,8 +12,8 @@ use Rattle.judge.specs.Judgement.{badOrders, badLog, badRecord}
 use Rattle.steps.specs.Refusals.{orderRefusalBy, strangeEntries, hearRefusalBy}
 use Rattle.steps.specs.Steps.{orderSent, hearTaken, hearOther, hearStep}
 use Rattle.single.specs.Single.{orderRefusalSingly, orderSingly, orderBuffer, hearRefusalSingly, hearSingly, hearBuffer}
-use Rattle.bench.specs.Posts.{ordersSent}
-use Rattle.bench.specs.Cases.{Bench}
+use Rattle.table.specs.Posts.{ordersSent}
+use Rattle.table.specs.Cases.{Bench}
 
 pub bench : Bench
 unfolding anyBelow frameOf bytesOf badEntries frameRefusal readRefusal writeRefusal readOf written stampUnder withStamp raised raisedBelow newer newestBelow newestEntries kept ticked ordered raisedPost taken allBelow isLogged isDue dueBelow insertKey sort duePlaces dueLog delivered badOrders badLog badRecord orderRefusalBy strangeEntries hearRefusalBy orderSent hearTaken hearOther hearStep orderRefusalSingly orderSingly orderBuffer hearRefusalSingly hearSingly hearBuffer ordersSent

@@ -12,7 +12,7 @@ use Rattle.post.specs.Record.{freshPost}
 use Rattle.steps.specs.Answers.{orderNumber, hearNumber}
 use Rattle.steps.specs.declared.HearAnswer.the-variants.{Taken, Again, Early}
 use Rattle.single.specs.Single.{orderSingly}
-use Rattle.bench.specs.Posts.{fresh, blank, after, frameOfOrder, hearing, frameOfHearing, items, frame0, post1, frame1, frame2, post0, ordersSent, clockAt}
+use Rattle.table.specs.Posts.{fresh, blank, after, frameOfOrder, hearing, frameOfHearing, items, frame0, post1, frame1, frame2, post0, ordersSent, clockAt}
 
 -- P2: "01 00 01 01 00 03 00 5A 01 00 04 01 00 03, then eighteen 00"
 abbrev pub frame4Bytes : List ℕ

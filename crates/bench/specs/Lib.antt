@@ -1,2 +1,0 @@
-pub mod Posts
-pub mod Cases

@@ -1,0 +1,4 @@
+pub mod RunLaws
+pub mod PostTurns
+pub mod YardTurns
+pub mod Ways

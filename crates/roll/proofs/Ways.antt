@@ -1,0 +1,63 @@
+-- The ways through the roll call: refused with 13, refused with 27, and run. Assumes nothing.
+use mathlib.Core.Path.{_≡_}
+use mathlib.Core.List.{List}
+use Prim.Native.Nat.{ℕ, _+_, _-_, _≤_, _<_}
+use native.Mathlib.Nat.{add-assoc}
+use borrow.Author.Tests.{eq-eqb, ne-eqb, lt-ltb, le-ltb}
+use lib.Count.{ones}
+use lib.ListN.{length, length-append}
+use Rattle.yard.specs.declared.Yard.{Yard}
+use Rattle.yard.specs.Worlds.{World, singles}
+use Rattle.roll.specs.declared.RollAnswer as calling
+use Rattle.roll.specs.declared.RollCalled.{RollCalled}
+use Rattle.roll.specs.declared.YardRan.{YardRan}
+use Rattle.roll.specs.RollCall.{postsHear, beaconsSent, postsHearBeacons, rollSteps, rollRefusal, rollCall, rollCallAir}
+use Rattle.roll.specs.Loops.{world, yardRan}
+use Rattle.roll.proofs.RunLaws.{singles-append}
+
+module _ (y : Yard) (air : List ℕ) where
+  -- what the call finds
+  abbrev found : World
+  found = world y air
+
+  -- the air has another length
+  pub call-13 : (length air ≡ 65536 → ⊥)
+      → (_≡_ {A = RollCalled} (record { answer = calling.the-variants.Refused 13; yard = y }) (rollCall found)) × (air ≡ rollCallAir found)
+  unfolding rollRefusal rollCall rollCallAir
+  call-13 bad = (rw (ne-eqb _ _ bad), rw (ne-eqb _ _ bad))
+
+  -- fewer than S beacons are left
+  pub call-27 : (left : ℕ) → length air ≡ 65536 → left ≡ 1024 - y .beacons → left < ones (y .sources)
+      → (_≡_ {A = RollCalled} (record { answer = calling.the-variants.Refused 27; yard = y }) (rollCall found)) × (air ≡ rollCallAir found)
+  unfolding rollRefusal rollCall rollCallAir
+  call-27 left good e few =
+      let t = lt-ltb _ _ (rw e at few) in
+      (rw (eq-eqb _ _ good, t), rw (eq-eqb _ _ good, t))
+
+  -- neither
+  passed : (left : ℕ) → length air ≡ 65536 → left ≡ 1024 - y .beacons → ones (y .sources) ≤ left → rollRefusal found ≡ 0
+  unfolding rollRefusal
+  passed left good e enough = rw (eq-eqb _ _ good, le-ltb _ _ (rw e at enough))
+
+  -- then the list is run
+  pub call-runs : (left : ℕ) (r : YardRan) (air′ : List ℕ) → length air ≡ 65536 → left ≡ 1024 - y .beacons → ones (y .sources) ≤ left
+      → r ≡ yardRan found (rollSteps found) → air′ ≡ singles found (rollSteps found) .air
+      → (_≡_ {A = RollCalled} (record { answer = calling.the-variants.Called (r .steps); yard = r .yard }) (rollCall found))
+      × (air′ ≡ rollCallAir found)
+  unfolding rollCall rollCallAir
+  call-runs left r air′ good e enough er ea = let z = passed left good e enough in (rw (z, er), rw (z, ea))
+
+  -- the three parts of the list
+  pub run-all : (heard sent done : YardRan) (air₁ air₂ air₃ : List ℕ)
+      → heard ≡ yardRan found (postsHear y 8) → air₁ ≡ singles found (postsHear y 8) .air
+      → sent ≡ yardRan (world (heard .yard) air₁) (beaconsSent (y .sources) 8)
+      → air₂ ≡ singles (world (heard .yard) air₁) (beaconsSent (y .sources) 8) .air
+      → done ≡ yardRan (world (sent .yard) air₂) (postsHearBeacons (y .present) (y .sources) (heard .yard .frames) 8)
+      → air₃ ≡ singles (world (sent .yard) air₂) (postsHearBeacons (y .present) (y .sources) (heard .yard .frames) 8) .air
+      → (_≡_ {A = YardRan} (record { yard = done .yard; steps = heard .steps + sent .steps + done .steps }) (yardRan found (rollSteps found)))
+      × (air₃ ≡ singles found (rollSteps found) .air)
+  unfolding rollSteps
+  run-all heard sent done air₁ air₂ air₃ eh ea es eb ed ec = (
+    rw (singles-append, singles-append, length-append, length-append, ed, eb, es, ea, eh, add-assoc),
+    rw (singles-append, singles-append, ec, eb, es, ea, eh),
+  )

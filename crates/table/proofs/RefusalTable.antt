@@ -1,0 +1,54 @@
+-- Every refusal of the joint table, by computing the definitions; after a thousand beacons by Beacons.antt. Assumes nothing.
+use mathlib.Core.Path.{refl}
+use Rattle.frame.specs.Lanes.{anyBelow}
+use Rattle.frame.specs.Layout.{frameOf, bytesOf}
+use Rattle.frame.specs.Refusals.{badEntries, frameRefusal, readRefusal}
+use Rattle.air.specs.Air.{placeRefusal, placed, airWith}
+use Rattle.cells.specs.Tables.{stampUnder, withStamp}
+use Rattle.post.specs.Newest.{raised, raisedBelow, newer, newestBelow, newestEntries}
+use Rattle.post.specs.Taking.{kept, ticked, ordered, raisedPost, taken}
+use Rattle.deliver.specs.Delivery.{allBelow, isLogged, isDue, dueBelow, insertKey, sort, duePlaces, dueLog, delivered}
+use Rattle.steps.specs.Refusals.{orderRefusalBy, strangeEntries, hearRefusalBy}
+use Rattle.steps.specs.Steps.{orderSent, orderStep, hearTaken, hearStep}
+use Rattle.yard.specs.Yards.{freshYard}
+use Rattle.yard.specs.Singles.{framesAfter, postOrders, postOrdersAir, firstAfter, yardOrders, yardOrdersAir, postHears, postHearsAir, yardHears, yardHearsAir, postBeacons, postBeaconsAir, yardBeacons, yardBeaconsAir}
+use Rattle.yard.specs.Worlds.{single}
+use Rattle.roll.specs.RollCall.{rollRefusal, rollCall, rollCallAir}
+use Rattle.roll.specs.Runs.{answer, step, run}
+use Rattle.table.specs.Scripts.{ordersSentBy0}
+use Rattle.table.specs.RefusalCases.{RefusalBench}
+use Rattle.table.proofs.Beacons.{beacon-1024-passes, beacon-1025-refused, lane-3-not-there, roll-passes, roll-refused}
+
+pub refusalBench : RefusalBench
+unfolding anyBelow frameOf bytesOf badEntries frameRefusal readRefusal placeRefusal placed airWith stampUnder withStamp raised raisedBelow newer newestBelow newestEntries kept ticked ordered raisedPost taken allBelow isLogged isDue dueBelow insertKey sort duePlaces dueLog delivered orderRefusalBy strangeEntries hearRefusalBy orderSent orderStep hearTaken hearStep freshYard framesAfter postOrders postOrdersAir firstAfter yardOrders yardOrdersAir postHears postHearsAir yardHears yardHearsAir postBeacons postBeaconsAir yardBeacons yardBeaconsAir single rollRefusal rollCall rollCallAir answer step run ordersSentBy0
+refusalBench = record {
+  order-4 = (refl, refl);
+  hear-4 = (refl, refl);
+  beacon-4 = (refl, refl);
+  word-65535 = refl;
+  order-5 = (refl, refl);
+  order-13 = (refl, refl);
+  order-13-long = (refl, refl);
+  hear-13 = (refl, refl);
+  beacon-13 = (refl, refl);
+  roll-13 = (refl, refl);
+  order-21 = (refl, refl);
+  hear-21 = (refl, refl);
+  beacon-21 = (refl, refl);
+  order-22 = (refl, refl);
+  order-16 = refl;
+  order-23 = (refl, refl);
+  hear-25 = (refl, refl);
+  frame-0-heard = refl;
+  hear-26 = (refl, refl);
+  beacon-1024 = beacon-1024-passes;
+  beacon-27 = beacon-1025-refused;
+  roll-2-left = roll-passes;
+  roll-27 = roll-refused;
+  order-4-wins = (refl, refl);
+  order-5-wins = (refl, refl);
+  order-13-wins = (refl, refl);
+  hear-13-wins = (refl, refl);
+  hear-21-wins = (refl, refl);
+  beacon-21-wins = lane-3-not-there;
+}

@@ -1,0 +1,6 @@
+pub mod Posts
+pub mod Cases
+pub mod Scripts
+pub mod YardCases
+pub mod RefusalCases
+pub mod Joint

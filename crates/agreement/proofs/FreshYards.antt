@@ -27,7 +27,6 @@ use Rattle.agreement.proofs.Views.{rolesOf, placesView, postView, airVi
 use Rattle.agreement.proofs.ArrayViews.{places-zeros}
 use Rattle.agreement.proofs.PostViews.{view-fresh, view-none}
 use Rattle.agreement.proofs.Sound.{InYard, Sound}
-use Rattle.agreement.proofs.RollViews.{ones-some}
 
 module _ (present sources dests : ℕ) where
   -- the record of each lane
@@ -81,18 +80,18 @@ module _ (present sources dests : ℕ) where
   fresh-log air lane = ap (λ (P : model.Post). P .log) (fresh-post-view lane) ∙ (unfold model.freshPost in refl)
 
   module _ (small : present < 256) (smallSources : sources < 256) (smallDests : dests < 256) (z : yardRefusal present sources dests ≡ 0) where
-    -- there is a post
-    pub some-post : 0 < present
-    some-post = let e = eqb-false present 0 (passed (eqb present 0) 3 (cond (badRecord (freshPost 0 present sources dests)) 12 0) (omega arith) parts .0) in omega arith
+    -- N is not 0
+    pub some-ones : 0 < ones present
+    some-ones = let e = eqb-false (ones present) 0 (passed (eqb (ones present) 0) 3 (cond (badRecord (freshPost 0 present sources dests)) 12 0) (omega arith) parts .0) in omega arith
       where
-        parts : _≡_ {A = ℕ} (cond (eqb present 0) 3 (cond (badRecord (freshPost 0 present sources dests)) 12 0)) 0
+        parts : _≡_ {A = ℕ} (cond (eqb (ones present) 0) 3 (cond (badRecord (freshPost 0 present sources dests)) 12 0)) 0
         parts = unfold yardRefusal in z
 
     -- no record is refused
     judged : badRecord (freshPost 0 present sources dests) ≡ false
-    judged = passed (badRecord (freshPost 0 present sources dests)) 12 0 (omega arith) (passed (eqb present 0) 3 (cond (badRecord (freshPost 0 present sources dests)) 12 0) (omega arith) parts .1) .0
+    judged = passed (badRecord (freshPost 0 present sources dests)) 12 0 (omega arith) (passed (eqb (ones present) 0) 3 (cond (badRecord (freshPost 0 present sources dests)) 12 0) (omega arith) parts .1) .0
       where
-        parts : _≡_ {A = ℕ} (cond (eqb present 0) 3 (cond (badRecord (freshPost 0 present sources dests)) 12 0)) 0
+        parts : _≡_ {A = ℕ} (cond (eqb (ones present) 0) 3 (cond (badRecord (freshPost 0 present sources dests)) 12 0)) 0
         parts = unfold yardRefusal in z
 
     roles-judged : anyBelow (λ (i : ℕ). (hasLane sources i || hasLane dests i) && not (hasLane present i)) 8 ≡ false
@@ -136,7 +135,3 @@ module _ (present sources dests : ℕ) where
 
     pub fresh-records : (lane : ℕ) → lane < 8 → badRecord (postAt (freshYard present sources dests) lane) ≡ false
     fresh-records lane l = valid-judged (postAt (freshYard present sources dests) lane) (fresh-in-yard lane l .valid)
-
-    -- N is not 0
-    pub some-ones : 0 < ones present
-    some-ones = ones-some present small some-post

@@ -1,6 +1,5 @@
 -- The roll call's list of single steps is the model's list, and S and N are counts of ones. Assumes nothing.
 use mathlib.Core.Path.{_≡_, refl, sym, ap, _∙_}
-use mathlib.Core.Logic.{_⊎_, inl, inr}
 use mathlib.Core.Bool.{Bool, true, false, cond}
 use Prim.Native.Nat.{ℕ, zero, suc, _+_, _/_, _%_, _^_, _<_, _≤_}
 use native.Mathlib.Omega.{arith}
@@ -11,7 +10,6 @@ use Rattle.cells.specs.Sets.{hasLane}
 use Rattle.yard.specs.Yards.{postAt}
 use Rattle.yard.specs.Worlds.{World}
 use Rattle.roll.specs.RollCall.{laneHears, lanesHears, postsHear, beaconsSent, sourcesBelow, beaconsHeard, postsHearBeacons}
-use Rattle.laws.proofs.TestLaws.{below-or-not}
 use Rattle.model.proofs.Model as model
 use Rattle.agreement.proofs.Views.{rolesOf, yardView}
 use Rattle.agreement.proofs.ArrayViews.{places-in}
@@ -91,25 +89,6 @@ ones-eight set l = omega (
   where
     none : ones 0 ≡ 0
     none = unfold ones onesIn in refl
-
--- a set that is not empty has one
-half-some : (n m : ℕ) → m ≡ n / 2 → (0 < m → 0 < ones m) → 0 < n → 0 < ones n
-half-some n m e h l = go (below-or-not 0 m)
-  where
-    go : (0 < m) ⊎ (m ≤ 0) → 0 < ones n
-    go (inl p) = omega (arith, half n m e, h p)
-    go (inr p) = omega (arith, half n m e)
-
-pub ones-some : (set : ℕ) → set < 256 → 0 < set → 0 < ones set
-ones-some set l =
-    half-some set (set / 2) (omega arith)
-    (half-some (set / 2) (set / 4) (omega arith)
-    (half-some (set / 4) (set / 8) (omega arith)
-    (half-some (set / 8) (set / 16) (omega arith)
-    (half-some (set / 16) (set / 32) (omega arith)
-    (half-some (set / 32) (set / 64) (omega arith)
-    (half-some (set / 64) (set / 128) (omega arith)
-    (half-some (set / 128) 0 (omega arith) (λ h. absurd (omega arith)))))))))
 
 -- how many lanes below k a set has
 unfoldable pub lanesBelow : ℕ → ℕ → ℕ

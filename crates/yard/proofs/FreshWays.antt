@@ -3,6 +3,7 @@ use mathlib.Core.Path.{_≡_, refl}
 use mathlib.Core.Bool.{Bool, true, false, cond, not}
 use mathlib.Core.List.{[], _∷_}
 use Prim.Native.Nat.{ℕ}
+use lib.Count.{ones}
 use lib.Dec.{eqb}
 use lib.ListN.{replicate}
 use borrow.Author.Tests.{ne-eqb}
@@ -32,7 +33,7 @@ all-fresh present sources dests p0 p1 p2 p3 p4 p5 p6 p7 e0 e1 e2 e3 e4 e5 e6 e7 
 
 -- 3, then 12
 fresh-judged : (present sources dests : ℕ) (p : Post) (n12 m n : ℕ) → p ≡ freshPost 0 present sources dests → n12 ≡ recordRefusal p
-    → m ≡ cond (not (eqb n12 0)) 12 0 → n ≡ cond (eqb present 0) 3 m
+    → m ≡ cond (not (eqb n12 0)) 12 0 → n ≡ cond (eqb (ones present) 0) 3 m
     → n ≡ yardRefusal present sources dests
 unfolding yardRefusal
 fresh-judged present sources dests p n12 m n ep e12 em en = go (badRecord (freshPost 0 present sources dests)) refl
@@ -42,13 +43,13 @@ fresh-judged present sources dests p n12 m n ep e12 em en = go (badRecord (fresh
     go false q = rw q (let z : n12 ≡ 0 = rw (ep, q) at e12 in let y : m ≡ 0 = rw z at em in rw y at en)
 
 pub fresh-made : (present sources dests : ℕ) (p : Post) (n12 m n : ℕ) (y : Yard) → p ≡ freshPost 0 present sources dests → n12 ≡ recordRefusal p
-    → m ≡ cond (not (eqb n12 0)) 12 0 → n ≡ cond (eqb present 0) 3 m → n ≡ 0 → y ≡ freshYard present sources dests
+    → m ≡ cond (not (eqb n12 0)) 12 0 → n ≡ cond (eqb (ones present) 0) 3 m → n ≡ 0 → y ≡ freshYard present sources dests
     → _≡_ {A = FreshYard} (record { refusal = 0; yard = y }) (yardMade present sources dests)
 unfolding yardMade
 fresh-made present sources dests p n12 m n y ep e12 em en z ey = rw (← fresh-judged present sources dests p n12 m n ep e12 em en, z, ey)
 
 pub fresh-refused : (present sources dests : ℕ) (p : Post) (n12 m n : ℕ) (y : Yard) → p ≡ freshPost 0 present sources dests → n12 ≡ recordRefusal p
-    → m ≡ cond (not (eqb n12 0)) 12 0 → n ≡ cond (eqb present 0) 3 m → (n ≡ 0 → ⊥) → y ≡ freshYard 0 0 0
+    → m ≡ cond (not (eqb n12 0)) 12 0 → n ≡ cond (eqb (ones present) 0) 3 m → (n ≡ 0 → ⊥) → y ≡ freshYard 0 0 0
     → _≡_ {A = FreshYard} (record { refusal = n; yard = y }) (yardMade present sources dests)
 unfolding yardMade
 fresh-refused present sources dests p n12 m n y ep e12 em en h ey =

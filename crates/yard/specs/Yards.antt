@@ -2,6 +2,7 @@
 use Prim.Native.Nat.{ℕ}
 use mathlib.Core.Bool.{cond}
 use mathlib.Core.List.{[], map}
+use lib.Count.{ones}
 use lib.Dec.{eqb}
 use lib.ListN.{getD, replicate}
 use Rattle.frame.specs.Lanes.{lanes}
@@ -43,10 +44,10 @@ freshYard present sources dests = record {
   first = replicate 128 0;
 }
 
--- 3, "no posts"; 12, as each record would be judged: "a role at a lane without a post"
+-- 3, "no posts": N, the count of ones, is 0; 12, as each record would be judged: "a role at a lane without a post"
 unfoldable pub yardRefusal : ℕ → ℕ → ℕ → ℕ
 yardRefusal present sources dests =
-    cond (eqb present 0) 3
+    cond (eqb (ones present) 0) 3
     (cond (badRecord (freshPost 0 present sources dests)) 12
     0)
 

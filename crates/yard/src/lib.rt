@@ -77,7 +77,7 @@ pub fn fresh(present: u8, sources: u8, dests: u8) -> FreshYard
 {
     let post = Post::new(0, present, sources, dests);
     let number = cells::pick(judge::refusal(post) != 0, 12, 0);
-    let number = cells::pick(present == 0, 3, number);
+    let number = cells::pick(u8::count_ones(present) == 0, 3, number);
     if number == 0 {
         let yard = parts::fresh_yard(present, sources, dests);
         FreshYard {

@@ -9,8 +9,6 @@ use lib.ListN.{length}
 use Rattle.roll.specs.Runs.{Order}
 use Rattle.roll.specs.Logs.{rank, insertOrder, inOrder}
 use Rattle.laws.proofs.ListLaws.{Begins}
-use Rattle.model.proofs.OrderLists as lists
-use Rattle.agreement.specs.Demand3.{Rising}
 
 -- a list without its first order, and its first order, or another where there is none
 abbrev rest : List Order → List Order
@@ -52,8 +50,3 @@ pub length-in-order : (l : List Order) → length (inOrder l) ≡ length l
 unfolding inOrder
 length-in-order [] = refl
 length-in-order (x ∷ l) = length-insert x (inOrder l) ∙ ap suc (length-in-order l)
-
--- strictly rising, as the statement says it
-pub rising : (l : List Order) → lists.Rising l → Rising l
-rising [] r = tt
-rising (x ∷ l) r = (r .0, rising l (r .1))

@@ -12,14 +12,14 @@ use Rattle.post.specs.declared.Post as posts
 use Rattle.post.specs.Record.{isSource, isDest, lastOf}
 use Rattle.deliver.specs.Delivery.{isTaken, isLogged, stampAt, isDue, duePlaces, delivered}
 use Rattle.roll.specs.Runs.{Order}
-use Rattle.roll.specs.Logs.{orderAt, ordersLogged, rank, inOrder}
+use Rattle.roll.specs.Logs.{orderAt, ordersLogged, rank, inOrder, Rising}
 use Rattle.laws.proofs.TestLaws.{true-or-false, not-both, and-made, same-or-not, below-or-not}
 use Rattle.laws.proofs.ListLaws.{Mem, RisingBy}
 use Rattle.laws.proofs.LogLaws.{logOf, keyAt, logged-mem, mem-logged, is-due, due-is, places-due, due-places, places-rise}
 use Rattle.laws.proofs.Valid.{Shaped, Valid}
 use Rattle.laws.proofs.ValidLog.{delivered-log-only, delivered-log}
 use Rattle.model.proofs.Model.{Post, Roles, orderOf, takenBelow, has, ready, due, newLog, deliver}
-use Rattle.model.proofs.OrderLists.{Rising, Apart, in-order-rises, in-order-mem, mem-in-order, unique}
+use Rattle.model.proofs.OrderLists.{Apart, in-order-rises, in-order-mem, mem-in-order, unique}
 use Rattle.model.proofs.Invariants.{TakenIn}
 use Rattle.model.proofs.Taken.{KeptRise, kept-rise, mem-those, apart-those, apart-taken, has-mem, mem-taken}
 use Rattle.model.proofs.Delivery.{ready-le, le-ready, due-taken, due-ready, due-new}

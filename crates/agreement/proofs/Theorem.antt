@@ -36,7 +36,7 @@ use Rattle.agreement.proofs.ListSimulates.{roll-same}
 use Rattle.agreement.proofs.RunSimulates.{Keeps, fits, next, StepSimulates, step-simulates, roll-number, RunSimulates, run-simulates}
 use Rattle.agreement.proofs.FreshYards.{fresh-at, fresh-view, fresh-log, roles-ok, fresh-sound, fresh-records, some-ones}
 use Rattle.agreement.proofs.WrongAir.{Refused, each-refused, never-runs, never-sends}
-use Rattle.agreement.proofs.Beginnings.{begin-each-other, length-in-order, rising}
+use Rattle.agreement.proofs.Beginnings.{begin-each-other, length-in-order}
 
 -- how many steps an answer says were run
 abbrev stepsSaid : Answer → ℕ
@@ -61,7 +61,7 @@ one-list w steps a = record {
   all = λ o m. mem-in-order o (sent w steps) m;
   only = λ o m. in-order-mem o (sent w steps) m;
   count = length-in-order (sent w steps);
-  rising = rising (inOrder (sent w steps)) (in-order-rises (sent w steps) a);
+  rising = in-order-rises (sent w steps) a;
 }
 
 -- the model's first frame of an order is that of the air

@@ -15,18 +15,13 @@ use Rattle.yard.specs.Worlds.{World}
 use Rattle.roll.specs.declared.RollAnswer as calling
 use Rattle.roll.specs.RollCall.{rollSteps}
 use Rattle.roll.specs.Runs.{Step, roll, answer, called, step, run, Order, sent}
-use Rattle.roll.specs.Logs.{logAt, rank, inOrder}
+use Rattle.roll.specs.Logs.{logAt, inOrder, Rising}
 use Rattle.laws.proofs.ListLaws.{Mem, Begins}
 use Rattle.agreement.specs.YardRefusals.{answerNumber, stepRefusal}
 
 -- a fresh yard of three sets of lanes, and any air
 abbrev pub freshWorld : ℕ → ℕ → ℕ → List ℕ → World
 freshWorld present sources dests air = record { yard = freshYard present sources dests; air = air }
-
--- "each once": no two orders of the list have one stamp and lane, and both rise
-abbrev pub Rising : List Order → Type 0
-Rising [] = Unit {0}
-Rising (o ∷ l) = ((later : Order) → Mem later l → rank o < rank later) × Rising l
 
 -- ---- what holds after a list of steps
 

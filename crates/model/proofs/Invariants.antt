@@ -6,10 +6,9 @@ use Prim.Native.Nat.{ℕ, suc, _≤_, _<_}
 use native.Mathlib.Omega.{arith}
 use Rattle.laws.proofs.ListLaws.{Mem}
 use Rattle.roll.specs.Runs.{Order}
-use Rattle.roll.specs.Logs.{rank}
+use Rattle.roll.specs.Logs.{rank, Rising}
 use Rattle.model.proofs.Functions.{le-or-not, upd, upd-case}
 use Rattle.model.proofs.Model.{Frame, Post, Roles, Yard, orderOf, ready}
-use Rattle.model.proofs.OrderLists.{Rising}
 
 -- ---- roles
 

@@ -9,12 +9,7 @@ use lib.Dec.{ltb}
 use borrow.Author.Tests.{ltb-true, ltb-false}
 use Rattle.laws.proofs.ListLaws.{Mem, mem-right, mem-append, Begins}
 use Rattle.roll.specs.Runs.{Order}
-use Rattle.roll.specs.Logs.{rank, insertOrder, inOrder}
-
--- ranks rise strictly along the list
-abbrev pub Rising : List Order → Type 0
-Rising [] = Unit {0}
-Rising (x ∷ l) = ((y : Order) → Mem y l → rank x < rank y) × Rising l
+use Rattle.roll.specs.Logs.{rank, insertOrder, inOrder, Rising}
 
 -- no two orders of the list rank alike
 abbrev pub Apart : List Order → Type 0

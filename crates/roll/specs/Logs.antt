@@ -1,5 +1,5 @@
 -- Delivery logs as lists of orders, and orders by stamp and then lane: document 01, "The words of demand 3". Assumes nothing.
-use Prim.Native.Nat.{ℕ, _+_, _*_, _/_, _%_}
+use Prim.Native.Nat.{ℕ, _+_, _*_, _/_, _%_, _<_}
 use mathlib.Core.Bool.{cond}
 use mathlib.Core.List.{List, [], _∷_, map}
 use lib.Dec.{ltb}
@@ -7,6 +7,7 @@ use lib.ListN.{getD, take}
 use Rattle.post.specs.declared.Post.{Post}
 use Rattle.yard.specs.Yards.{postAt}
 use Rattle.yard.specs.Worlds.{World}
+use Rattle.laws.proofs.ListLaws.{Mem}
 use Rattle.roll.specs.Runs.{Order}
 
 -- the order that a post keeps at a place: 16 places for each lane, a place for each serial from 1 on
@@ -39,3 +40,8 @@ insertOrder x (y ∷ l) = cond (ltb (rank x) (rank y)) (x ∷ y ∷ l) (y ∷ in
 unfoldable pub inOrder : List Order → List Order
 inOrder [] = []
 inOrder (x ∷ l) = insertOrder x (inOrder l)
+
+-- "each once": no two orders of a list have one stamp and lane, and both rise
+abbrev pub Rising : List Order → Type 0
+Rising [] = Unit {0}
+Rising (o ∷ l) = ((later : Order) → Mem later l → rank o < rank later) × Rising l

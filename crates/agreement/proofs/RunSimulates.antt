@@ -12,8 +12,7 @@ use Rattle.roll.specs.Runs.{Step, one, roll, answer, step, run, Order, sentBy, 
 use Rattle.laws.proofs.TestLaws.{same-or-not}
 use Rattle.model.proofs.Model as model
 use Rattle.model.proofs.Invariants.{RolesOk}
-use Rattle.model.proofs.Air.{frames-bound, clock-bound}
-use Rattle.model.proofs.Moves.{rollRefused, move, sentIn, moves, allSent, Good, single-good, move-good}
+use Rattle.model.proofs.Moves.{rollRefused, move, sentIn, moves, allSent, Good, single-good, move-good, good-clock, good-frames}
 use Rattle.agreement.specs.YardRefusals.{answerNumber, stepRefusal}
 use Rattle.agreement.proofs.Views.{rolesOf, yardView}
 use Rattle.agreement.proofs.Sound.{Sound}
@@ -32,8 +31,8 @@ module _ (present sources dests : ℕ) (small : sources < 256) (ro : RolesOk (ro
   pub fits : (Y : model.Yard) → Keeps Y → Fit present sources dests Y
   fits Y g = record {
     ok = g .1 .yardOk;
-    low = clock-bound R Y (g .1 .yardOk) (g .1 .airOk);
-    room = frames-bound R Y (g .1 .yardOk) (g .1 .airOk);
+    low = good-clock R ro Y (g .0) (g .1);
+    room = good-frames R ro Y (g .0) (g .1);
   }
 
   pub next : (Y : model.Yard) → Keeps Y → (s : Single) → Keeps (model.step R Y s)

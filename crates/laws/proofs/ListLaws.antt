@@ -6,13 +6,9 @@ use Prim.Native.Nat.{ℕ, zero, suc, _+_, _≤_, _<_}
 use native.Mathlib.Omega.{arith}
 use lib.ListN.{length, getD, set, length-append}
 use lib.Seq.{sets, getD-set-other}
+pub use Rattle.laws.specs.Lists.{Mem, Begins}
 
 module _ {A : Type 0} where
-  -- x stands in a list
-  abbrev pub Mem : A → List A → Type 0
-  Mem x [] = ⊥
-  Mem x (y ∷ l) = (x ≡ y) ⊎ Mem x l
-
   pub mem-left : (x : A) (s t : List A) → Mem x s → Mem x (s ++ t)
   mem-left x [] t h = absurd h
   mem-left x (y ∷ s) t (inl e) = inl e
@@ -31,10 +27,7 @@ module _ {A : Type 0} where
       up (inl m) = inl (inr m)
       up (inr m) = inr m
 
-  -- s begins l
-  abbrev pub Begins : List A → List A → Type 0
-  Begins s l = (r : List A) × (l ≡ s ++ r)
-
+  -- a list begins itself, and what begins a beginning begins the list
   pub begins-itself : (s : List A) → Begins s s
   begins-itself s = ([], sym (append-nil s))
 

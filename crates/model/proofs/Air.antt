@@ -83,11 +83,6 @@ frames-bound R Y y a = omega (arith, a .framesCount, a .beaconsAtMost, total-bou
 pub clock-bound : (R : Roles) (Y : Yard) → YardOk R Y → AirOk Y → (i : ℕ) → Y .posts i .clock ≤ 1024
 clock-bound R Y y a i = omega (arith, a .clocksUnder i, total-bound R Y y)
 
--- nor any stamp of an order
-pub stamp-bound : (R : Roles) (Y : Yard) → YardOk R Y → AirOk Y → (o : Order) → Sent (Y .posts) o → o .stamp ≤ 1024
-stamp-bound R Y y a o s =
-    omega (arith, s .stampIs, y .selves (o .lane) .stampsUnderClock (o .serial) (s .fromOne) (s .wasSent), clock-bound R Y y a (o .lane))
-
 -- ---- every step keeps the air as it has to be
 
 -- order: its broadcast is the first frame of the order

@@ -136,7 +136,7 @@ module _ (R : Roles) (ro : RolesOk R) where
 
   -- ---- the roll call
 
-  -- with N posts, O orders sent and S sources: (N - 1) * O + N * S single steps
+  -- with N posts, M orders sent and S sources: (N − 1) × M + N × S single steps
   pub roll-count : (Y : Yard) → YardOk R Y → 0 < postsBelow R 8
       → length (rollSteps R Y) ≡ (postsBelow R 8 - 1) * orders Y + postsBelow R 8 * sourcesBelow R 8
   unfolding rollSteps

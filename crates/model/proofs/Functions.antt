@@ -7,6 +7,7 @@ use native.Mathlib.Omega.{arith}
 use lib.Dec.{leb, eqb}
 use borrow.Author.Tests.{eq-eqb, ne-eqb, leb-true, leb-false}
 use Rattle.laws.proofs.TestLaws.{same-or-not}
+unfoldable pub use Rattle.roll.specs.Logs.{sumBelow}
 
 -- a number is at most another or not
 pub le-or-not : (a b : ℕ) → (a ≤ b) ⊎ (b < a)
@@ -80,11 +81,6 @@ module _ {A : Type 0} where
       go (inr e) g = rw (upd2-keep f i n a j m (λ x. absurd (e x))) (k (λ x. absurd (e x)))
 
 -- ---- sums
-
--- f 0 + .. + f (k - 1)
-unfoldable pub sumBelow : ℕ → (ℕ → ℕ) → ℕ
-sumBelow zero f = 0
-sumBelow (suc k) f = f k + sumBelow k f
 
 -- equal values, equal sums
 pub sum-same : (f g : ℕ → ℕ) (k : ℕ) → ((i : ℕ) → i < k → g i ≡ f i) → sumBelow k g ≡ sumBelow k f

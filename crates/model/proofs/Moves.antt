@@ -7,16 +7,17 @@ use native.Mathlib.Omega.{arith}
 use lib.Dec.{ltb, eqb}
 use lib.ListN.{length, length-append}
 use borrow.Author.Tests.{eq-eqb, ltb-false}
+use Rattle.frame.proofs.Laws.{passed}
 use Rattle.laws.proofs.ListLaws.{Begins, begins-itself, begins-on}
 use Rattle.yard.specs.Worlds.{Single}
 use Rattle.roll.specs.Runs.{Order, Step, one, roll}
 use Rattle.roll.specs.Logs.{inOrder}
 use Rattle.model.proofs.Functions.{sumBelow}
 use Rattle.model.proofs.Model.{Frame, Roles, Yard, step, sentBy, run, sent, freshPost, fresh, sourcesBelow, postsBelow, rollSteps}
-use Rattle.model.proofs.Invariants.{RolesOk, Sent, YardOk}
-use Rattle.model.proofs.Steps.{pass, if-zero, step-ok, run-ok, run-log}
+use Rattle.model.proofs.Invariants.{RolesOk, YardOk}
+use Rattle.model.proofs.Steps.{if-zero, step-ok, run-ok, run-log}
 use Rattle.model.proofs.SentOrders.{Lists, step-lists, run-lists, log-begins, fresh-ok, fresh-lists}
-use Rattle.model.proofs.Air.{AirOk, frames-bound, clock-bound, stamp-bound, step-air, run-air, fresh-air}
+use Rattle.model.proofs.Air.{AirOk, frames-bound, clock-bound, step-air, run-air, fresh-air}
 use Rattle.model.proofs.Counts.{orders, roll-count, step-orders, run-orders}
 use Rattle.model.proofs.RollLists.{roll-sends-none}
 use Rattle.model.proofs.RollCall.{roll-logs}
@@ -69,7 +70,7 @@ module _ (R : Roles) where
   pub roll-room : (Y : Yard) → Y .beacons ≤ 1024 → rollRefused Y ≡ 0 → Y .beacons + sourcesBelow R 8 ≤ 1024
   unfolding rollRefused
   roll-room Y b e =
-      let p = pass (ltb (1024 - Y .beacons) (sourcesBelow R 8)) 27 0 (omega arith) e in
+      let p = passed (ltb (1024 - Y .beacons) (sourcesBelow R 8)) 27 0 (omega arith) e in
       omega (arith, ltb-false (1024 - Y .beacons) (sourcesBelow R 8) (p .0))
 
 -- ---- what holds after every list of steps
@@ -141,10 +142,6 @@ module _ (R : Roles) (ro : RolesOk R) where
   pub good-clock : (Y : Yard) (S : List Order) → Good R ro Y S → (p : ℕ) → Y .posts p .clock ≤ 1024
   good-clock Y S g p = clock-bound R Y (g .yardOk) (g .airOk) p
 
-  -- no stamp of an order sent
-  pub good-stamp : (Y : Yard) (S : List Order) → Good R ro Y S → (o : Order) → Sent (Y .posts) o → o .stamp ≤ 1024
-  good-stamp Y S g o s = stamp-bound R Y (g .yardOk) (g .airOk) o s
-
   -- ---- logs
 
   -- a log is begun by what it was before a single step
@@ -193,7 +190,7 @@ module _ (R : Roles) (ro : RolesOk R) where
   roll-whole Y S g e p d = rw (eq-eqb (rollRefused R Y) 0 e)
       (roll-logs R ro Y S (g .yardOk) (g .airOk) (g .sentListed) (roll-room R Y (g .airOk .beaconsAtMost) e) p d)
 
-  -- and its answer, with N posts, O orders sent and S sources: (N - 1) * O + N * S
+  -- and its answer, with N posts, M orders sent and S sources: (N − 1) × M + N × S
   pub roll-answer : (Y : Yard) (S : List Order) → Good R ro Y S → 0 < postsBelow R 8
       → rollAnswer R Y ≡ (postsBelow R 8 - 1) * length S + postsBelow R 8 * sourcesBelow R 8
   unfolding rollAnswer

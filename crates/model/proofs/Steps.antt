@@ -9,6 +9,7 @@ use lib.Dec.{ltb, leb, eqb}
 use borrow.Author.Tests.{eqb-true, eqb-false, ne-eqb, leb-false, lt-leb, ltb-false, le-ltb, not-false}
 use Rattle.laws.proofs.TestLaws.{not-both}
 use Rattle.laws.proofs.ListLaws.{Begins, begins-itself, begins-on}
+use Rattle.frame.proofs.Laws.{passed}
 use Rattle.yard.specs.Worlds.{Single, order, hear, beacon}
 use Rattle.model.proofs.Model.{Frame, Roles, Yard, entriesFrame, noOrder, orderRefused, hearRefused, beaconRefused, orderDone, beaconDone, hearDone}
 use Rattle.model.proofs.Model.{step, run}
@@ -20,31 +21,26 @@ use Rattle.model.proofs.Hearing.{hear-ok}
 
 -- ---- what a step that is not refused has passed, and what is enough to pass
 
--- a test that gives no refusal failed
-pub pass : (b : Bool) (c r : ℕ) → 0 < c → cond b c r ≡ 0 → (b ≡ false) × (r ≡ 0)
-pass true c r h e = absurd (omega arith)
-pass false c r h e = (refl, e)
-
 module _ (R : Roles) (Y : Yard) where
   -- order
   pub order-pass : (p w : ℕ) → orderRefused R Y p w ≡ 0 → (p < 8) × (R .present p ≡ true) × (R .source p ≡ true) × (Y .posts p .own < 16)
   unfolding orderRefused
   order-pass p w e =
-      let a = pass (ltb 7 p) 4 _ (omega arith) e in
-      let b = pass (ltb 65535 w) 5 _ (omega arith) (a .1) in
-      let c = pass (not (R .present p)) 21 _ (omega arith) (b .1) in
-      let d = pass (not (R .source p)) 22 _ (omega arith) (c .1) in
-      let h = pass (leb 16 (Y .posts p .own)) 23 _ (omega arith) (d .1) in
+      let a = passed (ltb 7 p) 4 _ (omega arith) e in
+      let b = passed (ltb 65535 w) 5 _ (omega arith) (a .1) in
+      let c = passed (not (R .present p)) 21 _ (omega arith) (b .1) in
+      let d = passed (not (R .source p)) 22 _ (omega arith) (c .1) in
+      let h = passed (leb 16 (Y .posts p .own)) 23 _ (omega arith) (d .1) in
       (omega (arith, ltb-false 7 p (a .0)), not-false (R .present p) (c .0), not-false (R .source p) (d .0), leb-false 16 (Y .posts p .own) (h .0))
 
   -- hear
   pub hear-pass : (p k : ℕ) → hearRefused R Y p k ≡ 0 → (p < 8) × (R .present p ≡ true) × (k < Y .frames) × (Y .air k .sender ≢ p)
   unfolding hearRefused
   hear-pass p k e =
-      let a = pass (ltb 7 p) 4 _ (omega arith) e in
-      let b = pass (not (R .present p)) 21 _ (omega arith) (a .1) in
-      let c = pass (leb (Y .frames) k) 25 _ (omega arith) (b .1) in
-      let d = pass (eqb (Y .air k .sender) p) 26 _ (omega arith) (c .1) in
+      let a = passed (ltb 7 p) 4 _ (omega arith) e in
+      let b = passed (not (R .present p)) 21 _ (omega arith) (a .1) in
+      let c = passed (leb (Y .frames) k) 25 _ (omega arith) (b .1) in
+      let d = passed (eqb (Y .air k .sender) p) 26 _ (omega arith) (c .1) in
       (omega (arith, ltb-false 7 p (a .0)), not-false (R .present p) (b .0), leb-false (Y .frames) k (c .0), eqb-false (Y .air k .sender) p (d .0))
 
   -- and the other way round
@@ -56,9 +52,9 @@ module _ (R : Roles) (Y : Yard) where
   pub beacon-pass : (p : ℕ) → beaconRefused R Y p ≡ 0 → (p < 8) × (R .present p ≡ true) × (Y .beacons < 1024)
   unfolding beaconRefused
   beacon-pass p e =
-      let a = pass (ltb 7 p) 4 _ (omega arith) e in
-      let b = pass (not (R .present p)) 21 _ (omega arith) (a .1) in
-      let c = pass (leb 1024 (Y .beacons)) 27 _ (omega arith) (b .1) in
+      let a = passed (ltb 7 p) 4 _ (omega arith) e in
+      let b = passed (not (R .present p)) 21 _ (omega arith) (a .1) in
+      let c = passed (leb 1024 (Y .beacons)) 27 _ (omega arith) (b .1) in
       (omega (arith, ltb-false 7 p (a .0)), not-false (R .present p) (b .0), leb-false 1024 (Y .beacons) (c .0))
 
   -- and the other way round

@@ -1,13 +1,14 @@
--- Delivery logs as lists of orders, and orders by stamp and then lane: document 01, "The words of demand 3". Assumes nothing.
-use Prim.Native.Nat.{ℕ, _+_, _*_, _/_, _%_, _<_}
+-- Delivery logs as lists of orders, orders by stamp and then lane, and how many were taken: document 01, "The words of demand 3". Assumes nothing.
+use Prim.Native.Nat.{ℕ, zero, suc, _+_, _*_, _/_, _%_, _<_}
 use mathlib.Core.Bool.{cond}
 use mathlib.Core.List.{List, [], _∷_, map}
 use lib.Dec.{ltb}
 use lib.ListN.{getD, take}
 use Rattle.post.specs.declared.Post.{Post}
+use Rattle.post.specs.Record.{lastOf}
 use Rattle.yard.specs.Yards.{postAt}
 use Rattle.yard.specs.Worlds.{World}
-use Rattle.laws.proofs.ListLaws.{Mem}
+use Rattle.laws.specs.Lists.{Mem}
 use Rattle.roll.specs.Runs.{Order}
 
 -- the order that a post keeps at a place: 16 places for each lane, a place for each serial from 1 on
@@ -41,7 +42,16 @@ unfoldable pub inOrder : List Order → List Order
 inOrder [] = []
 inOrder (x ∷ l) = insertOrder x (inOrder l)
 
--- "each once": no two orders of a list have one stamp and lane, and both rise
+-- "each once": each order ranks above the one before, by stamp, and at equal stamps by lane
 abbrev pub Rising : List Order → Type 0
 Rising [] = Unit {0}
 Rising (o ∷ l) = ((later : Order) → Mem later l → rank o < rank later) × Rising l
+
+-- f 0 + .. + f (k - 1)
+unfoldable pub sumBelow : ℕ → (ℕ → ℕ) → ℕ
+sumBelow zero f = 0
+sumBelow (suc k) f = f k + sumBelow k f
+
+-- how many orders the posts have taken, all posts and lanes together
+unfoldable pub ordersTaken : World → ℕ
+ordersTaken w = sumBelow 8 (λ (p : ℕ). sumBelow 8 (lastOf (postAt (w .yard) p)))

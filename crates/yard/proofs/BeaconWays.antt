@@ -45,10 +45,10 @@ unfolding postBeacons postBeaconsAir
 post-beacon-runs air exit p here frames beacons n27 n21 n after d eh e27 e21 en z ed ef ex =
     (rw (← eh, ← e27, ← e21, ← en, z, ← ed, ← ef), rw (← eh, ← e27, ← e21, ← en, z, ← ed, ← ex))
 
-pub beacon-stranger : (air : List ℕ) (y : Yard) (lane : ℕ) → 8 ≤ lane
+pub beacon-over-7 : (air : List ℕ) (y : Yard) (lane : ℕ) → 8 ≤ lane
     → (_≡_ {A = YardBeaconed} (record { answer = beaconing.the-variants.Refused 4; yard = y }) (yardBeacons air y lane)) × (air ≡ yardBeaconsAir air y lane)
 unfolding yardBeacons yardBeaconsAir
-beacon-stranger air y lane h = (rw (le-ltb lane 8 h), rw (le-ltb lane 8 h))
+beacon-over-7 air y lane h = (rw (le-ltb lane 8 h), rw (le-ltb lane 8 h))
 
 pub beacon-runs : (air exit : List ℕ) (y : Yard) (lane : ℕ) (s : PostBeaconed) → lane < 8 → s ≡ postBeacons air (postAt y lane) (y .frames) (y .beacons)
     → exit ≡ postBeaconsAir air (postAt y lane) (y .frames) (y .beacons)

@@ -75,10 +75,10 @@ post-hear-runs air exit p frames k m n after got d eg em en z ed ef ex =
     let e : d ≡ hearStep p (frameAt air k) = ed ∙ ap (hearStep p) (j .1 z) in
     (rw (← j .0, z, ← e, ← ef), rw (← j .0, z, ← e, ← ex))
 
-pub hear-stranger : (air : List ℕ) (y : Yard) (lane k : ℕ) → 8 ≤ lane
+pub hear-over-7 : (air : List ℕ) (y : Yard) (lane k : ℕ) → 8 ≤ lane
     → (_≡_ {A = YardHeard} (record { answer = hearings.the-variants.Refused 4; yard = y }) (yardHears air y lane k)) × (air ≡ yardHearsAir air y lane k)
 unfolding yardHears yardHearsAir
-hear-stranger air y lane k h = (rw (le-ltb lane 8 h), rw (le-ltb lane 8 h))
+hear-over-7 air y lane k h = (rw (le-ltb lane 8 h), rw (le-ltb lane 8 h))
 
 pub hear-runs : (air exit : List ℕ) (y : Yard) (lane k : ℕ) (s : PostHeard) → lane < 8 → s ≡ postHears air (postAt y lane) (y .frames) k
     → exit ≡ postHearsAir air (postAt y lane) (y .frames) k

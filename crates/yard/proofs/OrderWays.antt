@@ -46,11 +46,11 @@ first-noted first exit lane serial before after place h ep ex = rw (lt-ltb befor
 pub first-kept : (first : List ℕ) (place before after : ℕ) → after ≤ before → first ≡ cond (ltb before after) (set first place before) first
 first-kept first place before after h = rw (le-ltb before after h)
 
-pub order-stranger : (air : List ℕ) (y : Yard) (lane word : ℕ) → 8 ≤ lane
+pub order-over-7 : (air : List ℕ) (y : Yard) (lane word : ℕ) → 8 ≤ lane
     → (_≡_ {A = YardOrdered} (record { answer = orders.the-variants.Refused 4; yard = y }) (yardOrders air y lane word))
     × (air ≡ yardOrdersAir air y lane word)
 unfolding yardOrders yardOrdersAir
-order-stranger air y lane word h = (rw (le-ltb lane 8 h), rw (le-ltb lane 8 h))
+order-over-7 air y lane word h = (rw (le-ltb lane 8 h), rw (le-ltb lane 8 h))
 
 pub order-runs : (air exit first : List ℕ) (y : Yard) (lane word : ℕ) (s : PostOrdered) → lane < 8 → s ≡ postOrders air (postAt y lane) (y .frames) word
     → exit ≡ postOrdersAir air (postAt y lane) (y .frames) word

@@ -203,7 +203,7 @@ pub fn order(y: Yard, air: &mut [u8], lane: usize, word: usize) -> YardOrdered
     }
 }
 
-// Hear (lane, frame k) in the yard (4, 13, 21, 25, 26).
+// Hear (lane, frame k) in the yard (4, 13, 21, 25, 26; in a yard nothing else of what the post's step judges arises).
 pub fn hear(y: Yard, air: &mut [u8], lane: usize, k: usize) -> YardHeard
     ensures { λ r. ⌜ r ≡ yardHears (now (air .entry)) y lane k ⌝ }
     ensures bytes { λ _. ⌜ now (air .exit) ≡ yardHearsAir (now (air .entry)) y lane k ⌝ }

@@ -1,10 +1,10 @@
-use Rattle.yard.proofs.BeaconWays.{beacon-stranger, beacon-runs}
+use Rattle.yard.proofs.BeaconWays.{beacon-over-7, beacon-runs}
 use borrow.Author.Needs.{needs}
 use Rattle.yard.proofs.beacon.Statement.{statement}
 use Rattle.yard.proofs.beacon.Tie as tie
 
 returns : tie.Need-returns
-returns c = beacon-stranger _ _ _ (c .if1 .taken)
+returns c = beacon-over-7 _ _ _ (c .if1 .taken)
 
 returns-2 : tie.Need-returns-2
 returns-2 c = beacon-runs _ _ _ _ _ (c .before .before .before .before .before .if1 .left) (c .before .before .post-beacons .ensures .0) (c .before .before .post-beacons .ensures .1)

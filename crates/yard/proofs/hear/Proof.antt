@@ -1,10 +1,10 @@
-use Rattle.yard.proofs.HearWays.{hear-stranger, hear-runs}
+use Rattle.yard.proofs.HearWays.{hear-over-7, hear-runs}
 use borrow.Author.Needs.{needs}
 use Rattle.yard.proofs.hear.Statement.{statement}
 use Rattle.yard.proofs.hear.Tie as tie
 
 returns : tie.Need-returns
-returns c = hear-stranger _ _ _ _ (c .if1 .taken)
+returns c = hear-over-7 _ _ _ _ (c .if1 .taken)
 
 returns-2 : tie.Need-returns-2
 returns-2 c = hear-runs _ _ _ _ _ _ (c .before .before .before .before .before .before .if1 .left) (c .before .before .before .post-hears .ensures .0) (c .before .before .before .post-hears .ensures .1)

@@ -1,10 +1,10 @@
-use Rattle.yard.proofs.OrderWays.{order-stranger, order-runs}
+use Rattle.yard.proofs.OrderWays.{order-over-7, order-runs}
 use borrow.Author.Needs.{needs}
 use Rattle.yard.proofs.order.Statement.{statement}
 use Rattle.yard.proofs.order.Tie as tie
 
 returns : tie.Need-returns
-returns c = order-stranger _ _ _ _ (c .if1 .taken)
+returns c = order-over-7 _ _ _ _ (c .if1 .taken)
 
 returns-2 : tie.Need-returns-2
 returns-2 c = order-runs _ _ _ _ _ _ _ (c .before .before .before .before .before .before .before .before .if1 .left) (c .before .before .before .before .before .post-orders .ensures .0) (c .before .before .before .before .before .post-orders .ensures .1) (c .note-first .ensures)

@@ -19,11 +19,17 @@ use Rattle.air.specs.Air.{stretchAt, placeRefusal, airWith}
 use Rattle.air.proofs.Laws.{write-good, has-place, kept-air}
 use Rattle.air.proofs.Stretches.{placed-same, others-stay}
 use Rattle.yard.specs.Singles.{framesAfter, frameAt}
+use Rattle.yard.specs.Worlds.{World}
 use Rattle.laws.proofs.TestLaws.{same-or-not, below-or-not}
 use Rattle.laws.proofs.Broadcasts.{Sendable}
 use Rattle.model.proofs.Model.{Frame}
 use Rattle.model.proofs.Functions.{upd, upd-same, upd-other}
 use Rattle.agreement.proofs.Views.{frameView, noFrameYet, airView}
+
+-- the model's frame k is that of the air
+pub air-at : (w : World) (k : ℕ) → k < w .yard .frames → airView (w .air) (w .yard .frames) k ≡ frameView (frameAt (w .air) k)
+unfolding airView
+air-at w k l = rw (lt-ltb k (w .yard .frames) l)
 
 -- ---- no broadcast
 

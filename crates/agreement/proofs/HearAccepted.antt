@@ -27,7 +27,7 @@ use Rattle.agreement.proofs.FrameViews.{view-order-frame}
 use Rattle.agreement.proofs.AirViews.{air-spoken}
 use Rattle.agreement.proofs.Sound.{heard-roles, on-air-more, InYard, Sound, hear-in-yard, posts-in-yard}
 use Rattle.agreement.proofs.HearWays.{Hearing, hear-silent, hear-spoken, hear-no-frame}
-use Rattle.agreement.proofs.OrderAccepted.{posts-view, delivers, rose-before}
+use Rattle.agreement.proofs.YardPosts.{posts-view, delivers, rose-before}
 
 -- the model's hearing, by whether the order is taken
 pub hearing-takes : (R : model.Roles) (Y : model.Yard) (p : ℕ) (F : model.Frame) → model.takes (model.raised (Y .posts p) F) F ≡ true

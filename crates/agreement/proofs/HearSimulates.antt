@@ -25,18 +25,14 @@ use Rattle.laws.proofs.TestLaws.{same-or-not, below-or-not, true-or-false}
 use Rattle.model.proofs.Model as model
 use Rattle.model.proofs.Invariants.{FrameOk, YardOk}
 use Rattle.agreement.specs.YardRefusals.{answerNumber, hearYardRefusal}
-use Rattle.agreement.proofs.Views.{rolesOf, frameView, airView, yardView}
+use Rattle.agreement.proofs.Views.{rolesOf, frameView, yardView}
+use Rattle.agreement.proofs.AirViews.{air-at}
 use Rattle.agreement.proofs.PostViews.{view-takes}
 use Rattle.agreement.proofs.Sound.{Sound}
 use Rattle.agreement.proofs.HearWays.{hear-4, hear-21, hear-25, Hearing, hear-refused-here, hear-answer}
 use Rattle.agreement.proofs.YardNumbers.{hear-number}
 use Rattle.agreement.proofs.HearAccepted.{hearing-takes, hear-silent-view, hear-silent-sound, hear-spoken-view, hear-spoken-sound}
 use Rattle.agreement.proofs.Simulates.{Fit, Simulates, hear-refused-same, hear-numbers}
-
--- the model's frame k is that of the air
-pub air-at : (w : World) (k : ℕ) → k < w .yard .frames → airView (w .air) (w .yard .frames) k ≡ frameView (frameAt (w .air) k)
-unfolding airView
-air-at w k l = rw (lt-ltb k (w .yard .frames) l)
 
 -- a hearing that is not refused answers no number
 pub hear-zero : (p : posts.Post) (f : frames.Frame) → hearRefusal p f ≡ 0 → hearNumber (hearStep p f .answer) ≡ 0

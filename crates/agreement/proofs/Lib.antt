@@ -5,6 +5,7 @@ pub mod FrameViews
 pub mod DeliveryViews
 pub mod AirViews
 pub mod Sound
+pub mod YardPosts
 pub mod OrderWays
 pub mod HearWays
 pub mod BeaconWays

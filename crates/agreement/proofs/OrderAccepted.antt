@@ -1,51 +1,34 @@
 -- Where it is sent, an order in a yard does what the model's order does. Assumes nothing.
-use mathlib.Core.Path.{_≡_, sym, ap, _∙_, fun-ext, subst}
-use mathlib.Core.List.{List}
-use mathlib.Core.Logic.{_⊎_, inl, inr, _≢_}
+use mathlib.Core.Path.{_≡_, sym, ap, _∙_, subst}
 use mathlib.Core.Bool.{false}
 use Prim.Native.Nat.{ℕ, suc, _+_, _<_, _≤_}
 use native.Mathlib.Omega.{arith}
 use native.Mathlib.Numerals.{add-one}
-use lib.ListN.{length, getD, set, length-set}
-use lib.Seq.{getD-set-same, getD-set-other}
+use lib.ListN.{length-set}
 use Rattle.air.proofs.Stretches.{length-stays}
-use Rattle.cells.specs.Sets.{hasLane}
 use Rattle.cells.specs.Tables.{orderPlace}
 use Rattle.post.specs.declared.Post as posts
 use Rattle.post.specs.Taking.{ordered}
-use Rattle.deliver.specs.Delivery.{delivered}
 use Rattle.steps.specs.Refusals.{orderRefusal}
 use Rattle.steps.specs.Steps.{orderStep}
-use Rattle.yard.specs.Yards.{noPost, postAt}
+use Rattle.yard.specs.Yards.{postAt}
 use Rattle.yard.specs.Worlds.{World, order, single}
 use Rattle.roll.specs.Runs.{Order}
-use Rattle.laws.proofs.TestLaws.{same-or-not}
 use Rattle.laws.proofs.Hearable.{orderable}
 use Rattle.laws.proofs.ValidSteps.{ordered-shaped, ordered-valid, order-post}
 use Rattle.laws.proofs.Broadcasts.{Sendable, order-frame, order-sendable}
-use Rattle.model.proofs.Functions.{upd, upd2, upd-same, upd-other, upd2-same}
+use Rattle.model.proofs.Functions.{upd, upd2, upd-same, upd2-same}
 use Rattle.model.proofs.Model as model
 use Rattle.model.proofs.Invariants.{YardOk}
 use Rattle.model.proofs.Taken.{KeptRise}
-use Rattle.model.proofs.Delivery.{known-rise}
 use Rattle.agreement.proofs.Views.{rolesOf, placesView, postView, frameView, yardView}
 use Rattle.agreement.proofs.ArrayViews.{places-set}
 use Rattle.agreement.proofs.PostViews.{view-ordered}
 use Rattle.agreement.proofs.FrameViews.{view-order-frame}
-use Rattle.agreement.proofs.DeliveryViews.{view-delivered}
 use Rattle.agreement.proofs.AirViews.{air-spoken}
 use Rattle.agreement.proofs.Sound.{ordered-roles, on-air-more, InYard, Sound, order-in-yard, posts-in-yard}
+use Rattle.agreement.proofs.YardPosts.{posts-view, delivers, rose-before}
 use Rattle.agreement.proofs.OrderWays.{OrderDone, order-done}
-
--- one record of the yard is changed
-pub posts-view : (l : List posts.Post) (lane : ℕ) (q : posts.Post) → length l ≡ 8 → lane < 8
-    → _≡_ {A = ℕ → model.Post} (λ i. postView (getD (set l lane q) i noPost)) (upd (λ i. postView (getD l i noPost)) lane (postView q))
-posts-view l lane q e h = fun-ext (λ i. go i (same-or-not i lane))
-  where
-    go : (i : ℕ) → (i ≡ lane) ⊎ (i ≢ lane)
-        → postView (getD (set l lane q) i noPost) ≡ upd (λ (j : ℕ). postView (getD l j noPost)) lane (postView q) i
-    go i (inl s) = rw (s, upd-same) (ap postView (getD-set-same l lane q noPost (omega arith)))
-    go i (inr n) = rw (upd-other (λ (j : ℕ). postView (getD l j noPost)) lane (postView q) i n) (ap postView (getD-set-other l lane i q noPost n))
 
 -- an order with this word
 abbrev pub sentOrder : ℕ → ℕ → ℕ → ℕ → Order
@@ -60,21 +43,6 @@ order-carried P lane word = rw (upd2-same (P .stamps) lane (suc (P .own)) (suc (
 module _ (present sources dests : ℕ) where
   abbrev R : model.Roles
   R = rolesOf present sources dests
-
-  -- a record of the yard delivers as the model's post does
-  pub delivers : (lane : ℕ) (q : posts.Post) → InYard present sources dests lane q → KeptRise (postView q)
-      → postView (delivered q .post) ≡ model.deliver R lane (postView q)
-  delivers lane q i c =
-      view-delivered q (i .shaped) (i .valid) R
-      (λ j l. ap (λ (x : ℕ). hasLane x j) (sym (i .itsSources)))
-      (ap (λ (x : ℕ). hasLane x (q .lane)) (sym (i .itsDests)))
-      c
-      ∙ ap (λ (j : ℕ). model.deliver R j (postView q)) (i .itsLane)
-
-  -- stamps rise in a post that has delivered, so they rose before
-  pub rose-before : (Y : model.Yard) (lane : ℕ) (Q : model.Post) → YardOk R Y → Y .posts lane ≡ model.deliver R lane Q → KeptRise Q
-  rose-before Y lane Q y e =
-      let c : KeptRise (model.deliver R lane Q) = rw e at (known-rise R (Y .posts) (Y .posts lane) (y .postsOk lane .knows) (y .selves)) in c
 
   module _ (w : World) (s : Sound present sources dests w) (lane word : ℕ) (here : lane < 8) (small : word ≤ 65535)
       (z : orderRefusal (postAt (w .yard) lane) ≡ 0) (room : w .yard .frames < 2048)
@@ -115,12 +83,12 @@ module _ (present sources dests : ℕ) where
     rises : KeptRise (postView q)
     rises =
         subst KeptRise (sym view-q)
-        (rose-before (model.orderDone R (yardView w) lane word) lane (model.ordered lane word (postView p)) after
+        (rose-before present sources dests (model.orderDone R (yardView w) lane word) lane (model.ordered lane word (postView p)) after
         (upd-same (yardView w .posts) lane (model.deliver R lane (model.ordered lane word (postView p)))))
 
     -- the post after it
     view-post : postView (orderStep p word .post) ≡ model.deliver R lane (model.ordered lane word (postView p))
-    view-post = ap postView (order-post p word z) ∙ delivers lane q q-in-yard rises ∙ ap (model.deliver R lane) view-q
+    view-post = ap postView (order-post p word z) ∙ delivers present sources dests lane q q-in-yard rises ∙ ap (model.deliver R lane) view-q
 
     -- the order that it carries
     carried : sentOrder word (p .lane) (p .serial .0 + 1) (p .clock .0 + 1) ≡ sentOrder word lane (suc (p .serial .0)) (suc (p .clock .0))

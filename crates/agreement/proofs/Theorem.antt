@@ -31,7 +31,7 @@ use Rattle.agreement.proofs.Views.{rolesOf, placesView, frameView, airV
 use Rattle.agreement.proofs.ArrayViews.{places-in}
 use Rattle.agreement.proofs.Sound.{Sound}
 use Rattle.agreement.proofs.RollViews.{count-sources, count-posts}
-use Rattle.agreement.proofs.HearSimulates.{air-at}
+use Rattle.agreement.proofs.AirViews.{air-at}
 use Rattle.agreement.proofs.ListSimulates.{roll-same}
 use Rattle.agreement.proofs.RunSimulates.{Keeps, fits, next, StepSimulates, step-simulates, roll-number, RunSimulates, run-simulates}
 use Rattle.agreement.proofs.FreshYards.{fresh-at, fresh-view, fresh-log, roles-ok, fresh-sound, fresh-records, some-ones}

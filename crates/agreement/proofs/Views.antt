@@ -1,4 +1,4 @@
--- The yard of document 01 read as the model's yard: arrays as functions, bytes as frames. A proof device; nobody has to believe it.
+-- The yard of document 01 read as the model's yard: arrays as functions, bytes as frames. A proof device; nobody has to believe it. Assumes nothing.
 use mathlib.Core.Bool.{true, cond, not, _&&_}
 use mathlib.Core.List.{List}
 use Prim.Native.Nat.{ℕ}

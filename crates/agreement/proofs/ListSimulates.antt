@@ -6,9 +6,11 @@ use Rattle.yard.specs.Yards.{postAt}
 use Rattle.yard.specs.Worlds.{World, Single, single, singles}
 use Rattle.roll.specs.RollCall.{postsHear, rollSteps}
 use Rattle.model.proofs.Model as model
+use Rattle.model.proofs.RollAccepted.{Accepted}
+use Rattle.agreement.specs.Demand3.{AllAccepted}
 use Rattle.agreement.proofs.Views.{rolesOf, yardView}
 use Rattle.agreement.proofs.Sound.{Sound}
-use Rattle.agreement.proofs.Simulates.{Fit, Simulates}
+use Rattle.agreement.proofs.Simulates.{Fit, Simulates, single-numbers}
 use Rattle.agreement.proofs.EachSingle.{single-simulates}
 use Rattle.agreement.proofs.RollViews.{posts-same, beacons-same, posts-heard-same}
 
@@ -38,6 +40,16 @@ module _ (present sources dests : ℕ) where
         let here = one-simulates w s g x in
         let r = list-simulates (single w x) (here .sound) (one-keeps w s g x) l in
         record { view = r .view ∙ ap (λ (Y : model.Yard). model.run R Y l) (here .view); sound = r .sound }
+
+    -- where the model accepts every step of a list, the yard does
+    pub list-accepted : (w : World) → Sound present sources dests w → Keeps (yardView w) → (l : List Single)
+        → Accepted R (yardView w) l → AllAccepted w l
+    list-accepted w s g [] a = tt
+    list-accepted w s g (x ∷ l) a =
+        let here = one-simulates w s g x in (
+          here .number ∙ sym (single-numbers present sources dests w s x) ∙ a .0,
+          list-accepted (single w x) (here .sound) (one-keeps w s g x) l (subst (λ (Y : model.Yard). Accepted R Y l) (sym (here .view)) (a .1)),
+        )
 
     -- the roll call's list
     pub roll-same : (w : World) → Sound present sources dests w → Keeps (yardView w) → rollSteps w ≡ model.rollSteps R (yardView w)

@@ -13,6 +13,7 @@ use Rattle.roll.specs.Runs.{one, answer, orderSentBy, sentBy}
 use Rattle.laws.proofs.TestLaws.{below-or-not}
 use Rattle.model.proofs.Model as model
 use Rattle.model.proofs.Invariants.{YardOk}
+use Rattle.model.proofs.RollAccepted.{refusedBy}
 use Rattle.agreement.specs.YardRefusals.{answerNumber, orderYardRefusal, hearYardRefusal, beaconYardRefusal, stepRefusal}
 use Rattle.agreement.proofs.Views.{rolesOf, airView, yardView}
 use Rattle.agreement.proofs.Sound.{Sound}
@@ -93,3 +94,9 @@ module _ (present sources dests : ℕ) where
   pub beacon-numbers : (w : World) → Sound present sources dests w → (lane : ℕ) → model.beaconRefused R (yardView w) lane ≡ beaconYardRefusal w lane
   unfolding model.beaconRefused beaconYardRefusal
   beacon-numbers w s lane = rw (s .itsPresent, eq-eqb (length (w .air)) 65536 (s .whole))
+
+  -- every single step's
+  pub single-numbers : (w : World) → Sound present sources dests w → (x : Single) → refusedBy R (yardView w) x ≡ stepRefusal w (one x)
+  single-numbers w s (order lane word) = order-numbers w s lane word
+  single-numbers w s (hear lane k) = hear-numbers w s lane k
+  single-numbers w s (beacon lane) = beacon-numbers w s lane

@@ -24,15 +24,16 @@ use Rattle.model.proofs.Model as model
 use Rattle.model.proofs.Invariants.{RolesOk}
 use Rattle.model.proofs.OrderLists.{Apart, mem-in-order, in-order-mem, in-order-rises}
 use Rattle.model.proofs.Air.{First, IsOf, frames-bound}
+use Rattle.model.proofs.RollAccepted.{roll-accepted}
 use Rattle.model.proofs.Moves as moving
 use Rattle.agreement.specs.YardRefusals.{answerNumber}
-use Rattle.agreement.specs.Demand3.{freshWorld, OneList, RollCalled, FirstFrame, Demand3, Agreement}
+use Rattle.agreement.specs.Demand3.{freshWorld, OneList, AllAccepted, RollCalled, FirstFrame, Demand3, Agreement}
 use Rattle.agreement.proofs.Views.{rolesOf, placesView, frameView, airView, yardView}
 use Rattle.agreement.proofs.ArrayViews.{places-in}
 use Rattle.agreement.proofs.Sound.{Sound}
 use Rattle.agreement.proofs.RollViews.{count-sources, count-posts}
 use Rattle.agreement.proofs.AirViews.{air-at}
-use Rattle.agreement.proofs.ListSimulates.{roll-same}
+use Rattle.agreement.proofs.ListSimulates.{list-accepted, roll-same}
 use Rattle.agreement.proofs.RunSimulates.{Keeps, fits, next, StepSimulates, step-simulates, roll-number, RunSimulates, run-simulates}
 use Rattle.agreement.proofs.FreshYards.{fresh-at, fresh-view, fresh-log, roles-ok, fresh-sound, fresh-records, some-ones}
 use Rattle.agreement.proofs.WrongAir.{Refused, each-refused, never-runs, never-sends}
@@ -133,19 +134,36 @@ module _ (present sources dests : ℕ) (air : List ℕ) (small : present < 256) 
     rolls steps n e =
         let ran = roll-ran (run w steps) n e in
         let c = moving.called R ro (airView air 0) steps (rw (count-posts present sources dests small) (some-ones present sources dests small smallSources smallDests z))
-        (rw (view steps) at (sym (roll-number present sources dests smallSources ro (run w steps) (reached steps .sound)) ∙ ran .0)) in
+        (rw (view steps) at (unrefused (ran .0))) in
         record {
           logs = λ lane d. rw (log-is (steps ++ (roll ∷ [])) lane, sends (steps ++ (roll ∷ [])), c .noneSent) (c .logsWhole lane d);
           ran = ran .1;
-          formula = ran .1 ∙ counted steps ∙ c .answerIs
+          accepted = all-accepted (ran .0);
+          formula = ran .1 ∙ counted ∙ c .answerIs
               ∙ rw (count-posts present sources dests small, count-sources present sources dests smallSources, sends steps) refl;
         }
       where
-        counted : (steps : List Step) → length (rollSteps (run w steps)) ≡ moving.rollAnswer R (moving.moves R Y steps)
-        counted steps =
-            ap length (roll-same present sources dests (Keeps present sources dests smallSources ro) (fits present sources dests smallSources ro)
-            (next present sources dests smallSources ro) (run w steps) (reached steps .sound) (sent w steps, good steps))
+        -- the model's call is not refused either
+        unrefused : rollRefusal (run w steps) ≡ 0 → moving.rollRefused R (yardView (run w steps)) ≡ 0
+        unrefused z = sym (roll-number present sources dests smallSources ro (run w steps) (reached steps .sound)) ∙ z
+
+        -- its list of single steps is the model's
+        listed : rollSteps (run w steps) ≡ model.rollSteps R (yardView (run w steps))
+        listed = roll-same present sources dests (Keeps present sources dests smallSources ro) (fits present sources dests smallSources ro)
+            (next present sources dests smallSources ro) (run w steps) (reached steps .sound) (sent w steps, good steps)
+
+        counted : length (rollSteps (run w steps)) ≡ moving.rollAnswer R (moving.moves R Y steps)
+        counted = ap length listed
             ∙ (unfold moving.rollAnswer in ap (λ (X : model.Yard). length (model.rollSteps R X)) (view steps))
+
+        -- of which none is refused
+        all-accepted : rollRefusal (run w steps) ≡ 0 → AllAccepted (run w steps) (rollSteps (run w steps))
+        all-accepted z =
+            let g = good steps in
+            list-accepted present sources dests (Keeps present sources dests smallSources ro) (fits present sources dests smallSources ro)
+            (next present sources dests smallSources ro) (run w steps) (reached steps .sound) (sent w steps, g) (rollSteps (run w steps))
+            (rw listed (roll-accepted R ro (yardView (run w steps)) (g .yardOk) (g .airOk)
+            (moving.roll-room R (yardView (run w steps)) (g .airOk .beaconsAtMost) (unrefused z))))
 
     firsts : (steps : List Step) (lane serial : ℕ) → lane < 8 → 0 < serial → serial ≤ postAt (run w steps .yard) lane .serial .0
         → FirstFrame (run w steps) lane serial (getD (run w steps .yard .first) (orderPlace lane serial) 0)

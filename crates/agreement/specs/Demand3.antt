@@ -11,10 +11,10 @@ use Rattle.cells.specs.Tables.{orderPlace}
 use Rattle.judge.specs.Judgement.{badRecord}
 use Rattle.yard.specs.Yards.{postAt, freshYard, yardRefusal}
 use Rattle.yard.specs.Singles.{frameAt}
-use Rattle.yard.specs.Worlds.{World}
+use Rattle.yard.specs.Worlds.{World, Single, single}
 use Rattle.roll.specs.declared.RollAnswer as calling
 use Rattle.roll.specs.RollCall.{rollSteps}
-use Rattle.roll.specs.Runs.{Step, roll, answer, called, step, run, Order, sent}
+use Rattle.roll.specs.Runs.{Step, one, roll, answer, called, step, run, Order, sent}
 use Rattle.roll.specs.Logs.{logAt, inOrder, Rising}
 use Rattle.laws.proofs.ListLaws.{Mem, Begins}
 use Rattle.agreement.specs.YardRefusals.{answerNumber, stepRefusal}
@@ -42,12 +42,19 @@ abbrev pub LogsAgree : World → Type 0
 LogsAgree w = (steps more : List Step) (a b : ℕ)
     → Begins (logAt (run w steps) a) (logAt (run w (steps ++ more)) b) ⊎ Begins (logAt (run w (steps ++ more)) b) (logAt (run w steps) a)
 
+-- every one of a list of single steps is accepted, each in the world that the one before left
+abbrev pub AllAccepted : World → List Single → Type 0
+AllAccepted w [] = Unit {0}
+AllAccepted w (s ∷ l) = (answerNumber (answer w (one s)) ≡ 0) × AllAccepted (single w s) l
+
 -- "If the steps end with a roll call that is not refused": it answered n
 pub record RollCalled (present sources dests : ℕ) (w : World) (steps : List Step) (n : ℕ) : Type 0 where
   -- "every destination's log is exactly all orders sent so far, by stamp and then lane, each once"
   pub logs : (lane : ℕ) → hasLane dests lane ≡ true → logAt (run w (steps ++ (roll ∷ []))) lane ≡ inOrder (sent w (steps ++ (roll ∷ [])))
   -- "That call's answer is the number of single steps that it ran"
   pub ran : n ≡ length (rollSteps (run w steps))
+  -- and none of them was refused
+  pub accepted : AllAccepted (run w steps) (rollSteps (run w steps))
   -- "and equals (N−1)×M + N×S for N posts, M orders sent so far and S sources"
   pub formula : n ≡ (ones present - 1) * length (sent w steps) + ones present * ones sources
 

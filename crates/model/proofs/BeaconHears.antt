@@ -127,6 +127,12 @@ module _ (R : Roles) (ro : RolesOk R) where
     on-air : (X : Yard) → OnlyBeacons R Z X → (i : ℕ) → R .source i ≡ true → Y .frames + sourcesBelow R i < X .frames
     on-air X t i b = omega (arith, t .sameFrames, h .framesThen, sources-suc R i b, sources-le R (suc i) 8 (source-below R ro i b))
 
+    -- and another post's hearing of it is not refused
+    pub beacon-hearable : (X : Yard) → OnlyBeacons R Z X → (p i : ℕ) → p < 8 → R .present p ≡ true → R .source i ≡ true → i ≢ p
+        → hearRefused R X p (Y .frames + sourcesBelow R i) ≡ 0
+    beacon-hearable X t p i l c b ne =
+        hear-fine R X p (Y .frames + sourcesBelow R i) l c (on-air X t i b) (λ e. ne (sym (there X t i b .beaconFrom) ∙ e))
+
     -- one of the hearings
     next-only : (X : Yard) → OnlyBeacons R Z X → (p i : ℕ)
         → OnlyBeacons R X (run R X (cond (R .source i && not (eqb i p)) (hear p (Y .frames + sourcesBelow R i) ∷ []) []))
@@ -196,16 +202,13 @@ module _ (R : Roles) (ro : RolesOk R) where
     one-heard : (X : Yard) → OnlyBeacons R Z X → (p i : ℕ) → p < 8 → R .present p ≡ true → R .source i ≡ true → i ≢ p
         → Heard (step R X (hear p (Y .frames + sourcesBelow R i))) p i
     one-heard X t p i l c b ne =
-        rw (step-hear R X p k fine, hear-beacon X p (X .air k) (f .isBeacon), upd-same) (go (le-or-not (Y .posts i .clock) 0))
+        rw (step-hear R X p k (beacon-hearable X t p i l c b ne), hear-beacon X p (X .air k) (f .isBeacon), upd-same) (go (le-or-not (Y .posts i .clock) 0))
       where
         k : ℕ
         k = Y .frames + sourcesBelow R i
 
         f : OwnBeacon (Y .posts) i (X .air k)
         f = there X t i b
-
-        fine : hearRefused R X p k ≡ 0
-        fine = hear-fine R X p k l c (on-air X t i b) (λ e. ne (sym (f .beaconFrom) ∙ e))
 
         go : (Y .posts i .clock ≤ 0) ⊎ (0 < Y .posts i .clock)
             → Y .posts i .clock ≤ raise (X .posts p .table) (X .air k .entrySerial) (X .air k .entryStamp) i (Y .posts i .own)

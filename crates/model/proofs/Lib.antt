@@ -17,4 +17,5 @@ pub mod RollHears
 pub mod RollBeacons
 pub mod BeaconHears
 pub mod RollCall
+pub mod RollAccepted
 pub mod Moves

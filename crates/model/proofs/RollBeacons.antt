@@ -75,7 +75,12 @@ module _ (R : Roles) (ro : RolesOk R) (Y : Yard) (y : YardOk R Y) where
       below i s (inl q) l = absurd (not-both (R .source k) (rw q at s) b)
       below i s (inr q) l = omega arith
 
-  -- where there is room for all, each source sends its beacon
+  -- where there is room for all, the next source's beacon is not refused
+  pub beacon-has-room : Y .beacons + sourcesBelow R 8 ≤ 1024 → (Z : Yard) (k : ℕ) → k < 8 → R .source k ≡ true → Beaconed R Y Z k → beaconRefused R Z k ≡ 0
+  beacon-has-room room Z k l b h =
+      beacon-fine R Z k l (ro .sourcesPresent k b) (omega (arith, h .beaconsThen, sources-suc R k b, sources-le R (suc k) 8 l))
+
+  -- so each source sends its beacon
   pub beaconed : Y .beacons + sourcesBelow R 8 ≤ 1024 → (k : ℕ) → k ≤ 8 → Beaconed R Y (run R Y (beaconsSent R k)) k
   unfolding beaconsSent run
   beaconed room zero l = record {
@@ -89,9 +94,6 @@ module _ (R : Roles) (ro : RolesOk R) (Y : Yard) (y : YardOk R Y) where
       X : Yard
       X = run R Y (beaconsSent R k)
 
-      fine : R .source k ≡ true → Beaconed R Y X k → beaconRefused R X k ≡ 0
-      fine b h = beacon-fine R X k (omega arith) (ro .sourcesPresent k b) (omega (arith, h .beaconsThen, sources-suc R k b, sources-le R (suc k) 8 l))
-
       go : (b : Bool) → R .source k ≡ b → Beaconed R Y X k → Beaconed R Y (run R X (cond b (beacon k ∷ []) [])) (suc k)
-      go true b h = rw (step-beacon R X k (fine b h)) (beacon-sent X k b h)
+      go true b h = rw (step-beacon R X k (beacon-has-room room X k l b h)) (beacon-sent X k b h)
       go false b h = no-beacon X k b h

@@ -27,11 +27,11 @@ module _ (R : Roles) (ro : RolesOk R) where
 
   module _ (Y : Yard) (y : YardOk R Y) (a : AirOk Y) where
     -- the orders are heard
-    Y₁ : Yard
+    unfoldable pub Y₁ : Yard
     Y₁ = run R Y (postsHear R Y 8)
 
     -- the beacons are sent
-    Y₂ : Yard
+    unfoldable pub Y₂ : Yard
     Y₂ = run R Y₁ (beaconsSent R 8)
 
     -- the beacons are heard
@@ -45,14 +45,19 @@ module _ (R : Roles) (ro : RolesOk R) where
         ∙ run-append R Y₁ (beaconsSent R 8) (postsHearBeacons R (Y₁ .frames) 8)
 
     -- no order is sent in the first
-    since₁ : Since R Y Y₁
+    pub since₁ : Since R Y Y₁
     unfolding Y₁
     since₁ = since-run R ro Y Y (postsHear R Y 8) (posts-no-order R Y 8) (since-itself R ro Y y a)
 
     -- nor in the second
-    since₂ : Since R Y₁ Y₂
+    pub since₂ : Since R Y₁ Y₂
     unfolding Y₂
     since₂ = since-run R ro Y₁ Y₁ (beaconsSent R 8) (beacons-no-order R 8) (since-itself R ro Y₁ (since₁ .sinceOk) (since₁ .sinceAir))
+
+    -- and no beacon in the first
+    pub beacons₁ : Y₁ .beacons ≡ Y .beacons
+    unfolding Y₁
+    beacons₁ = hears-beacons R ro Y (postsHear R Y 8) (hears-posts R Y 8)
 
     -- ---- after the hearings of the orders
 
@@ -84,12 +89,12 @@ module _ (R : Roles) (ro : RolesOk R) where
 
     module _ (room : Y₁ .beacons + sourcesBelow R 8 ≤ 1024) where
       -- each source sent its beacon
-      sent₂ : Beaconed R Y₁ Y₂ 8
+      pub sent₂ : Beaconed R Y₁ Y₂ 8
       unfolding Y₂
       sent₂ = beaconed R ro Y₁ (since₁ .sinceOk) room 8 (omega arith)
 
       -- there nothing was heard since
-      still₂ : OnlyBeacons R Y₂ Y₂
+      pub still₂ : OnlyBeacons R Y₂ Y₂
       still₂ = only-itself R ro Y₂ (since₂ .sinceOk) (since₂ .sinceAir)
 
       -- after that only beacons were heard
@@ -177,7 +182,7 @@ module _ (R : Roles) (ro : RolesOk R) where
   roll-logs Y S y a l enough p d = rw (roll-is Y y a) (log-is Y y a room S lists p d)
     where
       room : Y₁ Y y a .beacons + sourcesBelow R 8 ≤ 1024
-      room = unfold Y₁ in omega (arith, hears-beacons R ro Y (postsHear R Y 8) (hears-posts R Y 8))
+      room = omega (arith, beacons₁ Y y a)
 
       lists : Lists (Y₃ Y y a .posts) S
       lists = rw (← roll-is Y y a, ← append-nil S, ← roll-sends-none R Y) (run-lists R ro Y (rollSteps R Y) y S l)

@@ -47,7 +47,7 @@ module _ (R : Roles) (ro : RolesOk R) where
   own-stays Y (beacon p) m i = beacon-or-refused R Y (λ Z. Z .posts i .own ≡ Y .posts i .own) p (λ e. refl) refl
 
   -- one step more
-  since-step : (Y Z : Yard) (s : Single) → NoOrder s → Since R Y Z → Since R Y (step R Z s)
+  pub since-step : (Y Z : Yard) (s : Single) → NoOrder s → Since R Y Z → Since R Y (step R Z s)
   since-step Y Z s m z = let n = step-ok R ro Z s (z .sinceOk) in record {
     sinceOk = n .nextOk;
     sinceAir = step-air R ro Z s (z .sinceOk) (z .sinceAir);

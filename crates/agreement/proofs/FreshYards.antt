@@ -75,6 +75,10 @@ module _ (present sources dests : ℕ) where
     first = fresh-first t;
   }
 
+  -- nothing was sent
+  pub fresh-serial : (lane : ℕ) → postAt (freshYard present sources dests) lane .serial .0 ≡ 0
+  fresh-serial lane = ap (λ (P : model.Post). P .own) (fresh-post-view lane) ∙ (unfold model.freshPost in refl)
+
   -- a log in which there is nothing
   pub fresh-log : (air : List ℕ) (lane : ℕ) → logAt (freshWorld present sources dests air) lane ≡ []
   fresh-log air lane = ap (λ (P : model.Post). P .log) (fresh-post-view lane) ∙ (unfold model.freshPost in refl)

@@ -24,4 +24,5 @@ pub mod RunSimulates
 pub mod FreshYards
 pub mod WrongAir
 pub mod Beginnings
+pub mod Promises
 pub mod Theorem

@@ -53,7 +53,7 @@ module _ (present sources dests : ℕ) (small : sources < 256) (ro : RolesOk (ro
   unfolding rollRefusal rollRefused
   roll-number w s = rw (eq-eqb (length (w .air)) 65536 (s .whole), s .itsSources, count-sources present sources dests small)
 
-  roll-done : (w : World) → rollRefusal w ≡ 0 → step w roll ≡ singles w (rollSteps w)
+  pub roll-done : (w : World) → rollRefusal w ≡ 0 → step w roll ≡ singles w (rollSteps w)
   unfolding step rollCall rollCallAir
   roll-done w z = rw z
 

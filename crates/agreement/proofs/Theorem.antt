@@ -2,42 +2,37 @@
 use mathlib.Core.Path.{_≡_, refl, sym, ap, _∙_, subst}
 use mathlib.Core.List.{List, [], _∷_, _++_, append-nil}
 use mathlib.Core.Logic.{_⊎_, inl, inr, _≢_}
-use mathlib.Core.Bool.{not}
 use Prim.Native.Nat.{ℕ, _+_, _-_, _<_, _≤_}
 use native.Mathlib.Omega.{arith}
 use lib.ListN.{length, getD}
-use borrow.Author.Tests.{eqb-true, eq-eqb, ne-eqb, not-false}
+use borrow.Author.Tests.{ne-eqb}
 use Rattle.cells.specs.Tables.{orderPlace}
-use Rattle.post.specs.declared.Post.{Post}
-use Rattle.steps.specs.Refusals.{isOrder}
 use Rattle.yard.specs.Yards.{postAt, freshYard, yardRefusal}
-use Rattle.yard.specs.Singles.{frameAt}
 use Rattle.yard.specs.Worlds.{World}
 use Rattle.roll.specs.declared.RollAnswer as calling
 use Rattle.roll.specs.RollCall.{rollSteps, rollRefusal, rollCall}
-use Rattle.roll.specs.Runs.{Step, roll, Answer, ordered, heard, beaconed, called, answer, run, sent}
-use Rattle.roll.specs.Logs.{logAt, inOrder}
+use Rattle.roll.specs.Runs.{Step, roll, Answer, ordered, heard, beaconed, called, answer, step, run, sent}
+use Rattle.roll.specs.Logs.{logAt, inOrder, sumBelow, ordersTaken}
 use Rattle.laws.proofs.TestLaws.{same-or-not}
 use Rattle.laws.proofs.ListLaws.{Begins}
 use Rattle.laws.proofs.Valid.{valid-judged}
 use Rattle.model.proofs.Model as model
 use Rattle.model.proofs.Invariants.{RolesOk}
-use Rattle.model.proofs.OrderLists.{Apart, mem-in-order, in-order-mem, in-order-rises}
-use Rattle.model.proofs.Air.{First, IsOf, frames-bound}
+use Rattle.model.proofs.Air.{total-bound}
 use Rattle.model.proofs.RollAccepted.{roll-accepted}
 use Rattle.model.proofs.Moves as moving
 use Rattle.agreement.specs.YardRefusals.{answerNumber}
-use Rattle.agreement.specs.Demand3.{freshWorld, OneList, AllAccepted, RollCalled, FirstFrame, Demand3, Agreement}
-use Rattle.agreement.proofs.Views.{rolesOf, placesView, frameView, airView, yardView}
+use Rattle.agreement.specs.Demand3.{freshWorld, AllAccepted, RollCalled, FirstFrame, Demand3, Agreement}
+use Rattle.agreement.proofs.Views.{rolesOf, placesView, airView, yardView}
 use Rattle.agreement.proofs.ArrayViews.{places-in}
 use Rattle.agreement.proofs.Sound.{Sound}
 use Rattle.agreement.proofs.RollViews.{count-sources, count-posts}
-use Rattle.agreement.proofs.AirViews.{air-at}
 use Rattle.agreement.proofs.ListSimulates.{list-accepted, roll-same}
-use Rattle.agreement.proofs.RunSimulates.{Keeps, fits, next, StepSimulates, step-simulates, roll-number, RunSimulates, run-simulates}
-use Rattle.agreement.proofs.FreshYards.{fresh-at, fresh-view, fresh-log, roles-ok, fresh-sound, fresh-records, some-ones}
+use Rattle.agreement.proofs.RunSimulates.{Keeps, fits, next, StepSimulates, step-simulates, roll-number, roll-done, RunSimulates, run-simulates}
+use Rattle.agreement.proofs.FreshYards.{fresh-serial, fresh-view, fresh-log, roles-ok, fresh-sound, fresh-records, some-ones}
 use Rattle.agreement.proofs.WrongAir.{Refused, each-refused, never-runs, never-sends}
-use Rattle.agreement.proofs.Beginnings.{begin-each-other, length-in-order}
+use Rattle.agreement.proofs.Beginnings.{begin-each-other}
+use Rattle.agreement.proofs.Promises.{one-list, serials, first-frame, taken-total}
 
 -- how many steps an answer says were run
 abbrev stepsSaid : Answer → ℕ
@@ -56,27 +51,11 @@ roll-ran w n e = go (same-or-not (rollRefusal w) 0)
     go (inl z) = (z, sym (ap stepsSaid e) ∙ rw z refl)
     go (inr ne) = absurd (ne (let r : _≡_ {A = ℕ} (rollRefusal w) 0 = rw (ne-eqb (rollRefusal w) 0 ne) at (ap answerNumber e) in r))
 
--- the list of the orders sent, where no two have one stamp and lane
-one-list : (w : World) (steps : List Step) → Apart (sent w steps) → OneList w steps
-one-list w steps a = record {
-  all = λ o m. mem-in-order o (sent w steps) m;
-  only = λ o m. in-order-mem o (sent w steps) m;
-  count = length-in-order (sent w steps);
-  rising = in-order-rises (sent w steps) a;
-}
-
--- the model's first frame of an order is that of the air
-first-frame : (v : World) (lane serial k : ℕ) → First (airView (v .air) (v .yard .frames)) (v .yard .frames) lane serial k → FirstFrame v lane serial k
-first-frame v lane serial k f =
-    let here : IsOf (frameView (frameAt (v .air) k)) lane serial = rw (air-at v k (f .onAir)) at (f .isOf) in
-    record {
-      onAir = f .onAir;
-      kind = eqb-true (frameAt (v .air) k .kind) 1 (not-false (isOrder (frameAt (v .air) k)) (here .0));
-      ofLane = here .1;
-      ofSerial = here .2;
-      sender = rw (air-at v k (f .onAir)) at (f .fromItsLane);
-      before = λ j l e i n. f .noneEarlier j l (rw (air-at v j (omega (arith, f .onAir))) (ap not (eq-eqb (frameAt (v .air) j .kind) 1 e), i, n));
-    }
+-- a list of steps and one more
+run-last : (v : World) (l : List Step) (s : Step) → run v (l ++ (s ∷ [])) ≡ step (run v l) s
+unfolding run
+run-last v [] s = refl
+run-last v (x ∷ l) s = run-last (step v x) l s
 
 module _ (present sources dests : ℕ) (air : List ℕ) (small : present < 256) (smallSources : sources < 256) (smallDests : dests < 256)
     (z : yardRefusal present sources dests ≡ 0) where
@@ -137,6 +116,7 @@ module _ (present sources dests : ℕ) (air : List ℕ) (small : present < 256) 
         (rw (view steps) at (unrefused (ran .0))) in
         record {
           logs = λ lane d. rw (log-is (steps ++ (roll ∷ [])) lane, sends (steps ++ (roll ∷ [])), c .noneSent) (c .logsWhole lane d);
+          did = run-last w steps roll ∙ roll-done present sources dests smallSources ro (run w steps) (ran .0);
           ran = ran .1;
           accepted = all-accepted (ran .0);
           formula = ran .1 ∙ counted ∙ c .answerIs
@@ -171,17 +151,20 @@ module _ (present sources dests : ℕ) (air : List ℕ) (small : present < 256) 
         let g = good steps in
         let few : serial < 17 = omega (arith, g .yardOk .selves lane .ownAtMost) in
         rw (← places-in (run w steps .yard .first) lane serial a few)
-        (first-frame (run w steps) lane serial (placesView (run w steps .yard .first) lane serial) (g .airOk .firstFrames lane serial a b))
+        (first-frame R (run w steps) lane serial (placesView (run w steps .yard .first) lane serial) (g .yardOk) few (g .airOk .firstFrames lane serial a b))
 
     holds : Demand3 present sources dests w
     holds = record {
       logs = logs;
-      list = λ steps. one-list w steps (good steps .sentListed .listedApart);
+      list = λ steps. one-list w steps (good steps .sentListed .listedLane) (good steps .sentListed .listedApart);
       agree = agree;
       rolls = rolls;
       refusals = λ steps s. each steps s .number;
       stays = λ steps s h. each steps s .stays (rw (each steps s .number) at h);
-      room = λ steps. frames-bound R (yardView (run w steps)) (good steps .yardOk) (good steps .airOk);
+      frames = λ steps. good steps .airOk .framesCount ∙ ap (λ (n : ℕ). n + run w steps .yard .beacons) (taken-total (run w steps));
+      orderFrames = λ steps. rw (← taken-total (run w steps)) (total-bound R (yardView (run w steps)) (good steps .yardOk));
+      beaconFrames = λ steps. good steps .airOk .beaconsAtMost;
+      serials = λ steps lane. serials R w steps lane (good steps .yardOk) (good steps .sentListed);
       records = λ steps lane l. valid-judged (postAt (run w steps .yard) lane) (reached steps .sound .post lane l .valid);
       firsts = firsts;
     }
@@ -198,19 +181,35 @@ module _ (present sources dests : ℕ) (air : List ℕ) (small : present < 256) 
     no-log : (steps : List Step) (lane : ℕ) → logAt (run w steps) lane ≡ []
     no-log steps lane = ap (λ (x : World). logAt x lane) (stands steps) ∙ fresh-log present sources dests air lane
 
+    -- no order was sent or taken, and no frame is on the air
+    no-serial : (steps : List Step) (lane : ℕ) → postAt (run w steps .yard) lane .serial .0 ≡ 0
+    no-serial steps lane = ap (λ (x : World). postAt (x .yard) lane .serial .0) (stands steps) ∙ fresh-serial present sources dests lane
+
+    none-taken : ordersTaken w ≡ 0
+    none-taken = unfold freshYard ordersTaken sumBelow in refl
+
+    none-aired : w .yard .frames ≡ ordersTaken w + w .yard .beacons
+    none-aired = unfold freshYard ordersTaken sumBelow in refl
+
     -- nothing happens
     idle : Demand3 present sources dests w
     idle = record {
       logs = λ steps more lane. rw (no-log steps lane) (inOrder (sent w (steps ++ more)), refl);
-      list = λ steps. one-list w steps (rw (nothing-sent steps) tt);
+      list = λ steps. one-list w steps (rw (nothing-sent steps) (λ o m. absurd m)) (rw (nothing-sent steps) tt);
       agree = λ steps more a b. rw (no-log steps a) (inl (logAt (run w (steps ++ more)) b, refl));
       rolls = λ steps n e. absurd (omega (arith, each-refused w bad roll .some, ap answerNumber (rw (stands steps) at e)));
       refusals = λ steps s. rw (stands steps) (each-refused w bad s .number);
       stays = λ steps s h. rw (stands steps) (each-refused w bad s .stays);
-      room = λ steps. rw (stands steps) (unfold freshYard in omega arith);
+      frames = λ steps. rw (stands steps) none-aired;
+      orderFrames = λ steps. rw (stands steps) (omega (arith, none-taken));
+      beaconFrames = λ steps. rw (stands steps) (unfold freshYard in omega arith);
+      serials = λ steps lane. record {
+        few = omega (arith, no-serial steps lane);
+        only = rw (nothing-sent steps) (λ o m. absurd m);
+        every = λ n a b. absurd (omega (arith, no-serial steps lane));
+      };
       records = λ steps lane l. rw (stands steps) (fresh-records present sources dests small smallSources smallDests z lane l);
-      firsts = λ steps lane serial l a b.
-          absurd (omega (arith, ap (λ (p : Post). p .serial .0) (ap (λ (x : World). postAt (x .yard) lane) (stands steps) ∙ fresh-at present sources dests lane l)));
+      firsts = λ steps lane serial l a b. absurd (omega (arith, no-serial steps lane));
     }
 
 pub agreement : Agreement

@@ -2,7 +2,7 @@
 use mathlib.Core.Path.{_≡_, refl, sym, ap, _∙_}
 use mathlib.Core.Logic.{_⊎_, inl, inr, _≢_}
 use mathlib.Core.Bool.{Bool, true, false, cond, not, _&&_}
-use mathlib.Core.List.{List, [], _∷_, _++_, map, append-nil}
+use mathlib.Core.List.{List, [], _∷_, _++_, map, append-nil, map-append}
 use Prim.Native.Nat.{ℕ, _+_, _-_, _/_, _%_, _<_, _≤_}
 use native.Mathlib.Omega.{arith}
 use lib.ListN.{getD}
@@ -66,11 +66,6 @@ orders-mem : (f : ℕ → Order) (y : Order) (l : List ℕ) → Mem y (map f l) 
 orders-mem f y [] m = absurd m
 orders-mem f y (x ∷ l) (inl e) = (x, inl refl, e)
 orders-mem f y (x ∷ l) (inr m) = let r = orders-mem f y l m in (r .0, inr (r .1), r .2)
-
--- orders made from two lists, one after the other
-map-append : (f : ℕ → Order) (s t : List ℕ) → map f (s ++ t) ≡ map f s ++ map f t
-map-append f [] t = refl
-map-append f (x ∷ s) t = ap (λ (l : List Order). f x ∷ l) (map-append f s t)
 
 -- ---- the due orders rise
 

@@ -153,8 +153,8 @@ taking-air R ro Y p f l fo next y a = record {
     o : Order
     o = f .carried
 
-    st : Sent (Y .posts) o
-    st = fo .orderSent (next .0)
+    orderSent : Sent (Y .posts) o
+    orderSent = fo .orderSent (next .0)
 
     Q : Post
     Q = postTaking R p (Y .posts p) f
@@ -169,13 +169,13 @@ taking-air R ro Y p f l fo next y a = record {
     h = entriesFrame false p o Q
 
     source : R .source (o .lane) ≡ true
-    source = sends-source R Y y (o .lane) (omega (arith, st .fromOne, st .wasSent))
+    source = sends-source R Y y (o .lane) (omega (arith, orderSent .fromOne, orderSent .wasSent))
 
     more : total X ≡ suc (total (Y .posts))
     more = total-more (Y .posts) p (o .lane) D l (source-below R ro (o .lane) source) (rw (next .1) refl)
 
     low : o .stamp ≤ total (Y .posts)
-    low = omega (arith, st .stampIs, y .selves (o .lane) .stampsUnderClock (o .serial) (st .fromOne) (st .wasSent), a .clocksUnder (o .lane))
+    low = omega (arith, orderSent .stampIs, y .selves (o .lane) .stampsUnderClock (o .serial) (orderSent .fromOne) (orderSent .wasSent), a .clocksUnder (o .lane))
 
     clock : (b : Bool) → cond b (suc (max (Y .posts p .clock) (o .stamp))) (Y .posts p .clock) ≤ total X
     clock true = omega (arith, more, low, a .clocksUnder p)

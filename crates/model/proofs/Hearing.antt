@@ -57,16 +57,16 @@ clock-le false c t = omega arith
 pub taking-ok : (R : Roles) → RolesOk R → (Y : Yard) (p : ℕ) (f : Frame) → R .present p ≡ true → FrameOk R (Y .posts) f → IsNext Y p f
     → YardOk R Y → Next R Y (yardTaking R Y p f)
 taking-ok R ro Y p f present fo next y =
-    changed R ro Y p Q y g s kn lg refl later (upd (Y .air) (Y .frames) h) (suc (Y .frames)) (Y .beacons) (Y .first)
+    changed R ro Y p Q y g s knowsAfter logAfter refl later (upd (Y .air) (Y .frames) h) (suc (Y .frames)) (Y .beacons) (Y .first)
     (omega arith) (older-frames Y h) (λ i n a l. refl)
-    (one-more-frame R Y X h (λ k l. frame-grew R (Y .posts) X gr (Y .air k) (y .framesOk k l)) ho)
+    (one-more-frame R Y X h (λ k l. frame-grew R (Y .posts) X grown (Y .air k) (y .framesOk k l)) broadcastOk)
   where
     -- the order, which was sent and is the next of its lane
     o : Order
     o = f .carried
 
-    st : Sent (Y .posts) o
-    st = fo .orderSent (next .0)
+    sentBefore : Sent (Y .posts) o
+    sentBefore = fo .orderSent (next .0)
 
     e : o .serial ≡ suc (Y .posts p .last (o .lane))
     e = next .1
@@ -84,53 +84,53 @@ taking-ok R ro Y p f present fo next y =
     h : Frame
     h = entriesFrame false p o Q
 
-    sp : SelfOk R p P
-    sp = y .selves p
+    selfBefore : SelfOk R p P
+    selfBefore = y .selves p
 
-    kp : Knows R (Y .posts) P
-    kp = y .postsOk p .knows
+    knewBefore : Knows R (Y .posts) P
+    knewBefore = y .postsOk p .knows
 
     -- it is of another lane: this post has taken all of its own
     ne : p ≢ o .lane
-    ne q = omega (arith, rw (← q) at (st .wasSent), rw (← q) at e, sp .ownTaken)
+    ne q = omega (arith, rw (← q) at (sentBefore .wasSent), rw (← q) at e, selfBefore .ownTaken)
 
     keep : (n : ℕ) → Q .stamps p n ≡ P .stamps p n
     keep n = upd2-keep (P .stamps) (o .lane) (o .serial) (o .stamp) p n (λ q. absurd (ne q))
 
-    cl : P .clock ≤ Q .clock
-    cl = clock-le (R .source p) (P .clock) (o .stamp)
+    clockRises : P .clock ≤ Q .clock
+    clockRises = clock-le (R .source p) (P .clock) (o .stamp)
 
     -- the posts grow, by a clock at most
     g : Grows p P Q
     g = record {
       ownUp = omega arith;
-      clockUp = cl;
+      clockUp = clockRises;
       stampsKept = λ n a l. keep n;
       wordsKept = λ n a l. upd2-keep (P .words) (o .lane) (o .serial) (o .word) p n (λ q. absurd (ne q));
       newStamps = λ n a l. absurd (omega arith);
     }
 
-    gr : Grew (Y .posts) X
-    gr = grew (Y .posts) p (deliver R p Q) g
+    grown : Grew (Y .posts) X
+    grown = grew (Y .posts) p (deliver R p Q) g
 
     -- of the post by itself: its clock and own entry follow the stamp
     s : SelfOk R p Q
     s = record {
-      ownTaken = upd-other (P .last) (o .lane) (o .serial) p ne ∙ sp .ownTaken;
-      stampsRise = λ n a l. rw (keep n, keep (suc n)) (sp .stampsRise n a l);
-      stampsPositive = λ n a l. rw (keep n) (sp .stampsPositive n a l);
-      stampsUnderClock = λ n a l. rw (keep n) (omega (arith, sp .stampsUnderClock n a l, cl));
-      idleUnlessSource = λ q. rw q (sp .idleUnlessSource q);
-      ownAtMost = sp .ownAtMost;
+      ownTaken = upd-other (P .last) (o .lane) (o .serial) p ne ∙ selfBefore .ownTaken;
+      stampsRise = λ n a l. rw (keep n, keep (suc n)) (selfBefore .stampsRise n a l);
+      stampsPositive = λ n a l. rw (keep n) (selfBefore .stampsPositive n a l);
+      stampsUnderClock = λ n a l. rw (keep n) (omega (arith, selfBefore .stampsUnderClock n a l, clockRises));
+      idleUnlessSource = λ q. rw q (selfBefore .idleUnlessSource q);
+      ownAtMost = selfBefore .ownAtMost;
       ownEntry = λ b. rw (b, upd2-same) refl;
       clockSeen = λ b i n a. upd2-case (λ z. n ≤ Q .last i → z ≤ Q .clock) (P .stamps) (o .lane) (o .serial) (o .stamp) i n
           (λ q r l. rw b (omega arith))
-          (λ q l. omega (arith, cl, sp .clockSeen b i n a (newest-or-old (P .last) (o .lane) (o .serial) i n e l q)));
+          (λ q l. omega (arith, clockRises, selfBefore .clockSeen b i n a (newest-or-old (P .last) (o .lane) (o .serial) i n e l q)));
     }
 
     -- what it knows is true
-    sx : Sent X o
-    sx = sent-grew (Y .posts) X gr o st
+    sentAfter : Sent X o
+    sentAfter = sent-grew (Y .posts) X grown o sentBefore
 
     top : R .source p ≡ true → Holds X p (P .own) (suc (max (P .clock) (o .stamp)))
     top b = record {
@@ -144,8 +144,8 @@ taking-ok R ro Y p f present fo next y =
     T = raise (P .table) (f .entrySerial) (f .entryStamp)
 
     trueT : (i n : ℕ) → 0 < T i n → Holds X i n (T i n)
-    trueT i n l = holds-grew (Y .posts) X gr i n (T i n)
-        (raise-true (Y .posts) (P .table) (f .entrySerial) (f .entryStamp) (kp .entriesTrue) (fo .entriesHold) i n l)
+    trueT i n l = holds-grew (Y .posts) X grown i n (T i n)
+        (raise-true (Y .posts) (P .table) (f .entrySerial) (f .entryStamp) (knewBefore .entriesTrue) (fo .entriesHold) i n l)
 
     -- and by a source's new clock
     trueTable : (b : Bool) → R .source p ≡ b → (i n : ℕ) → 0 < cond b (upd2 T p (P .own) (suc (max (P .clock) (o .stamp)))) T i n
@@ -155,8 +155,8 @@ taking-ok R ro Y p f present fo next y =
     trueTable false b i n = trueT i n
 
     last : (i : ℕ) → (i ≡ o .lane) ⊎ (i ≢ o .lane) → Q .last i ≤ X i .own
-    last i (inl q) = rw (q, upd-same (P .last)) (sx .wasSent)
-    last i (inr q) = rw (upd-other (P .last) (o .lane) (o .serial) i q) (omega (arith, kp .lastSent i, gr .ownGrows i))
+    last i (inl q) = rw (q, upd-same (P .last)) (sentAfter .wasSent)
+    last i (inr q) = rw (upd-other (P .last) (o .lane) (o .serial) i q) (omega (arith, knewBefore .lastSent i, grown .ownGrows i))
 
     old : (i n : ℕ) → n ≤ Q .last i → (i ≡ o .lane → n ≢ o .serial) → n ≤ P .last i
     old i n l q = newest-or-old (P .last) (o .lane) (o .serial) i n e l q
@@ -164,41 +164,41 @@ taking-ok R ro Y p f present fo next y =
     later : (i : ℕ) → P .last i ≤ Q .last i
     later i = upd-case (λ z. P .last i ≤ z) (P .last) (o .lane) (o .serial) i (λ q. rw q (omega (arith, e))) (λ q. omega arith)
 
-    kn : Knows R X Q
-    kn = record {
+    knowsAfter : Knows R X Q
+    knowsAfter = record {
       entriesTrue = trueTable (R .source p) refl;
       lastSent = λ i. last i (same-or-not i (o .lane));
       stampsTrue = λ i n a. upd2-case (λ z. n ≤ Q .last i → z ≡ stampOf X i n) (P .stamps) (o .lane) (o .serial) (o .stamp) i n
-          (λ q r l. rw (q, r) (sx .stampIs))
-          (λ q l. kp .stampsTrue i n a (old i n l q) ∙ sym (gr .stampsStay i n a (omega (arith, old i n l q, kp .lastSent i))));
+          (λ q r l. rw (q, r) (sentAfter .stampIs))
+          (λ q l. knewBefore .stampsTrue i n a (old i n l q) ∙ sym (grown .stampsStay i n a (omega (arith, old i n l q, knewBefore .lastSent i))));
       wordsTrue = λ i n a. upd2-case (λ z. n ≤ Q .last i → z ≡ wordOf X i n) (P .words) (o .lane) (o .serial) (o .word) i n
-          (λ q r l. rw (q, r) (sx .wordIs))
-          (λ q l. kp .wordsTrue i n a (old i n l q) ∙ sym (gr .wordsStay i n a (omega (arith, old i n l q, kp .lastSent i))));
+          (λ q r l. rw (q, r) (sentAfter .wordIs))
+          (λ q l. knewBefore .wordsTrue i n a (old i n l q) ∙ sym (grown .wordsStay i n a (omega (arith, old i n l q, knewBefore .lastSent i))));
       loggedNoMore = λ x m i c. no-more-later X (P .last i) (Q .last i) (x .stamp) i (later i)
-          (no-more-grew (Y .posts) X gr (P .last i) (x .stamp) i (kp .loggedNoMore x m i c));
+          (no-more-grew (Y .posts) X grown (P .last i) (x .stamp) i (knewBefore .loggedNoMore x m i c));
     }
 
     -- its log stays in order: the lane sends no more up to what is logged
     source : R .source (o .lane) ≡ true
-    source = sends-source R Y y (o .lane) (omega (arith, st .fromOne, st .wasSent))
+    source = sends-source R Y y (o .lane) (omega (arith, sentBefore .fromOne, sentBefore .wasSent))
 
-    lg : LogOk Q
-    lg = take-log P (y .postsOk p .logOk) (o .lane) (o .serial) (o .stamp) (o .word) e
-        (λ x m. omega (arith, st .stampIs, kp .loggedNoMore x m (o .lane) source .laterAbove (o .serial) (omega (arith, e)) (st .wasSent)))
+    logAfter : LogOk Q
+    logAfter = take-log P (y .postsOk p .logOk) (o .lane) (o .serial) (o .stamp) (o .word) e
+        (λ x m. omega (arith, sentBefore .stampIs, knewBefore .loggedNoMore x m (o .lane) source .laterAbove (o .serial) (omega (arith, e)) (sentBefore .wasSent)))
         (Q .clock) (Q .own) (Q .table)
 
     -- its broadcast carries the order on
-    ho : FrameOk R X h
-    ho = broadcast-ok R X Q false p o present kn (λ q. sx)
+    broadcastOk : FrameOk R X h
+    broadcastOk = broadcast-ok R X Q false p o present knowsAfter (λ q. sentAfter)
 
 -- ---- only the entries are heard
 
 -- whatever the frame
 pub hearing-ok : (R : Roles) → RolesOk R → (Y : Yard) (p : ℕ) (f : Frame) → FrameOk R (Y .posts) f → YardOk R Y → Next R Y (yardHearing R Y p f)
 hearing-ok R ro Y p f fo y =
-    changed R ro Y p Q y g s kn lg refl (λ i. omega arith) (Y .air) (Y .frames) (Y .beacons) (Y .first)
+    changed R ro Y p Q y g s knowsAfter logAfter refl (λ i. omega arith) (Y .air) (Y .frames) (Y .beacons) (Y .first)
     (omega arith) (λ k l. refl) (λ i n a l. refl)
-    (λ k l. frame-grew R (Y .posts) X gr (Y .air k) (y .framesOk k l))
+    (λ k l. frame-grew R (Y .posts) X grown (Y .air k) (y .framesOk k l))
   where
     P : Post
     P = Y .posts p
@@ -209,20 +209,20 @@ hearing-ok R ro Y p f fo y =
     X : Posts
     X = upd (Y .posts) p (deliver R p Q)
 
-    sp : SelfOk R p P
-    sp = y .selves p
+    selfBefore : SelfOk R p P
+    selfBefore = y .selves p
 
     -- of the post by itself: its own entry stands
     s : SelfOk R p Q
     s = record {
-      ownTaken = sp .ownTaken;
-      stampsRise = sp .stampsRise;
-      stampsPositive = sp .stampsPositive;
-      stampsUnderClock = sp .stampsUnderClock;
-      idleUnlessSource = sp .idleUnlessSource;
-      ownAtMost = sp .ownAtMost;
-      clockSeen = sp .clockSeen;
-      ownEntry = λ b. raise-own R (Y .posts) p (f .entrySerial) (f .entryStamp) sp b (fo .entriesHold p) ∙ sp .ownEntry b;
+      ownTaken = selfBefore .ownTaken;
+      stampsRise = selfBefore .stampsRise;
+      stampsPositive = selfBefore .stampsPositive;
+      stampsUnderClock = selfBefore .stampsUnderClock;
+      idleUnlessSource = selfBefore .idleUnlessSource;
+      ownAtMost = selfBefore .ownAtMost;
+      clockSeen = selfBefore .clockSeen;
+      ownEntry = λ b. raise-own R (Y .posts) p (f .entrySerial) (f .entryStamp) selfBefore b (fo .entriesHold p) ∙ selfBefore .ownEntry b;
     }
 
     g : Grows p P Q
@@ -234,23 +234,23 @@ hearing-ok R ro Y p f fo y =
       newStamps = λ n a l. absurd (omega arith);
     }
 
-    gr : Grew (Y .posts) X
-    gr = grew (Y .posts) p (deliver R p Q) g
+    grown : Grew (Y .posts) X
+    grown = grew (Y .posts) p (deliver R p Q) g
 
     kx : Knows R X P
-    kx = knows-grew R (Y .posts) X gr P (y .postsOk p .knows)
+    kx = knows-grew R (Y .posts) X grown P (y .postsOk p .knows)
 
-    kn : Knows R X Q
-    kn = record {
-      entriesTrue = raise-true X (P .table) (f .entrySerial) (f .entryStamp) (kx .entriesTrue) (frame-grew R (Y .posts) X gr f fo .entriesHold);
+    knowsAfter : Knows R X Q
+    knowsAfter = record {
+      entriesTrue = raise-true X (P .table) (f .entrySerial) (f .entryStamp) (kx .entriesTrue) (frame-grew R (Y .posts) X grown f fo .entriesHold);
       lastSent = kx .lastSent;
       stampsTrue = kx .stampsTrue;
       wordsTrue = kx .wordsTrue;
       loggedNoMore = kx .loggedNoMore;
     }
 
-    lg : LogOk Q
-    lg = let l = y .postsOk p .logOk in record { logRises = l .logRises; logTaken = l .logTaken; logClosed = l .logClosed }
+    logAfter : LogOk Q
+    logAfter = let l = y .postsOk p .logOk in record { logRises = l .logRises; logTaken = l .logTaken; logClosed = l .logClosed }
 
 -- ---- either way
 

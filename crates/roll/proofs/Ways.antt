@@ -35,9 +35,9 @@ module _ (y : Yard) (air : List ℕ) where
       (rw (eq-eqb _ _ good, t), rw (eq-eqb _ _ good, t))
 
   -- neither
-  passed : (left : ℕ) → length air ≡ 65536 → left ≡ 1024 - y .beacons → ones (y .sources) ≤ left → rollRefusal found ≡ 0
+  call-passed : (left : ℕ) → length air ≡ 65536 → left ≡ 1024 - y .beacons → ones (y .sources) ≤ left → rollRefusal found ≡ 0
   unfolding rollRefusal
-  passed left good e enough = rw (eq-eqb _ _ good, le-ltb _ _ (rw e at enough))
+  call-passed left good e enough = rw (eq-eqb _ _ good, le-ltb _ _ (rw e at enough))
 
   -- then the list is run
   pub call-runs : (left : ℕ) (r : YardRan) (air′ : List ℕ) → length air ≡ 65536 → left ≡ 1024 - y .beacons → ones (y .sources) ≤ left
@@ -45,7 +45,7 @@ module _ (y : Yard) (air : List ℕ) where
       → (_≡_ {A = RollCalled} (record { answer = calling.the-variants.Called (r .steps); yard = r .yard }) (rollCall found))
       × (air′ ≡ rollCallAir found)
   unfolding rollCall rollCallAir
-  call-runs left r air′ good e enough er ea = let z = passed left good e enough in (rw (z, er), rw (z, ea))
+  call-runs left r air′ good e enough er ea = let z = call-passed left good e enough in (rw (z, er), rw (z, ea))
 
   -- the three parts of the list
   pub run-all : (heard sent done : YardRan) (air₁ air₂ air₃ : List ℕ)

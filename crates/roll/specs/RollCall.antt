@@ -33,6 +33,7 @@ postsHear y (suc p) = postsHear y p ++ cond (hasLane (y .present) p) (lanesHears
 
 -- ---- "Then each source in rising order sends a beacon."
 
+-- the sources below k
 unfoldable pub beaconsSent : ℕ → ℕ → List Single
 beaconsSent sources zero = []
 beaconsSent sources (suc i) = beaconsSent sources i ++ cond (hasLane sources i) (beacon i ∷ []) []
@@ -79,5 +80,6 @@ rollCall w =
     (record { answer = calling.the-variants.Called (length (rollSteps w)); yard = singles w (rollSteps w) .yard })
     (record { answer = calling.the-variants.Refused (rollRefusal w); yard = w .yard })
 
+-- the air after it
 unfoldable pub rollCallAir : World → List ℕ
 rollCallAir w = cond (eqb (rollRefusal w) 0) (singles w (rollSteps w) .air) (w .air)

@@ -14,6 +14,7 @@ pub data Step : Type 0 where
   one : Single → Step
   roll : Step
 
+-- an answer to a step: that of its kind
 pub data Answer : Type 0 where
   ordered : orders.OrderAnswer → Answer
   heard : hearings.HearAnswer → Answer
@@ -49,6 +50,7 @@ unfoldable pub orderSentBy : ℕ → ℕ → orders.OrderAnswer → List Order
 orderSentBy lane word (orders.the-variants.Sent serial stamp count) = record { lane = lane; serial = serial .0; stamp = stamp .0; word = word } ∷ []
 orderSentBy lane word (orders.the-variants.Refused number) = []
 
+-- the order that a step sends, if any: only an order step sends one
 unfoldable pub sentBy : World → Step → List Order
 sentBy w (one (order lane word)) = orderSentBy lane word (yardOrders (w .air) (w .yard) lane word .answer)
 sentBy w (one (hear lane k)) = []

@@ -45,6 +45,7 @@ postOrders air p frames word =
     })
     (record { answer = orders.the-variants.Refused (stopsOrder air word); post = p; frames = frames })
 
+-- the air after it
 unfoldable pub postOrdersAir : List ℕ → Post → ℕ → ℕ → List ℕ
 postOrdersAir air p frames word = cond (eqb (stopsOrder air word) 0) (airWith air frames (orderStep p word .frame)) air
 
@@ -52,6 +53,7 @@ postOrdersAir air p frames word = cond (eqb (stopsOrder air word) 0) (airWith ai
 unfoldable pub firstAfter : Yard → ℕ → PostOrdered → List ℕ
 firstAfter y lane s = cond (ltb (y .frames) (s .frames)) (set (y .first) (orderPlace lane (s .post .serial .0)) (y .frames)) (y .first)
 
+-- the yard in which the post of a lane orders
 unfoldable pub yardOrders : List ℕ → Yard → ℕ → ℕ → YardOrdered
 yardOrders air y lane word =
     let s = postOrders air (postAt y lane) (y .frames) word in
@@ -69,11 +71,13 @@ yardOrders air y lane word =
     })
     (record { answer = orders.the-variants.Refused 4; yard = y })
 
+-- the air after it
 unfoldable pub yardOrdersAir : List ℕ → Yard → ℕ → ℕ → List ℕ
 yardOrdersAir air y lane word = cond (ltb lane 8) (postOrdersAir air (postAt y lane) (y .frames) word) air
 
 -- ---- hear: 4, 13, 21 and 25, what reading refuses (never in a yard), then 21, 24, 26 and 28 to 30 of the post's own step
 
+-- what stops it before the post judges it: no air, no frame k, bytes that are no frame
 abbrev pub stopsHearing : List ℕ → Post → ℕ → ℕ → ℕ
 stopsHearing air p frames k =
     cond (badAir air) 13
@@ -84,6 +88,7 @@ stopsHearing air p frames k =
 abbrev pub frameAt : List ℕ → ℕ → Frame
 frameAt air k = frameOf (stretchAt air k)
 
+-- the post that hears frame k, with what it passes on the air
 unfoldable pub postHears : List ℕ → Post → ℕ → ℕ → PostHeard
 postHears air p frames k =
     cond (eqb (stopsHearing air p frames k) 0)
@@ -94,10 +99,11 @@ postHears air p frames k =
     })
     (record { answer = hearings.the-variants.Refused (stopsHearing air p frames k); post = p; frames = frames })
 
+-- the air after it
 unfoldable pub postHearsAir : List ℕ → Post → ℕ → ℕ → List ℕ
 postHearsAir air p frames k = cond (eqb (stopsHearing air p frames k) 0) (airWith air frames (hearStep p (frameAt air k) .frame)) air
 
--- the yard after a post has heard
+-- y with another record of a lane, and so many frames on the air
 abbrev pub withPost : Yard → ℕ → Post → ℕ → Yard
 withPost y lane p frames = record {
   present = y .present;
@@ -108,30 +114,35 @@ withPost y lane p frames = record {
   first = y .first;
 }
 
+-- the yard in which the post of a lane hears
 unfoldable pub yardHears : List ℕ → Yard → ℕ → ℕ → YardHeard
 yardHears air y lane k =
     let s = postHears air (postAt y lane) (y .frames) k in
     cond (ltb lane 8) (record { answer = s .answer; yard = withPost y lane (s .post) (s .frames) })
     (record { answer = hearings.the-variants.Refused 4; yard = y })
 
+-- the air after it
 unfoldable pub yardHearsAir : List ℕ → Yard → ℕ → ℕ → List ℕ
 yardHearsAir air y lane k = cond (ltb lane 8) (postHearsAir air (postAt y lane) (y .frames) k) air
 
 -- ---- beacon: 4, 13, 21, 27 ("for a beacon 1,024 sent")
 
+-- what stops it before the post sends it
 abbrev pub stopsBeacon : List ℕ → Post → ℕ → ℕ
 stopsBeacon air p beacons = cond (badAir air) 13 (cond (notInYard (p .posts) (p .lane)) 21 (cond (leb 1024 beacons) 27 0))
 
+-- the post that sends a beacon, with the beacon on the air; the post itself stays
 unfoldable pub postBeacons : List ℕ → Post → ℕ → ℕ → PostBeaconed
 postBeacons air p frames beacons =
     cond (eqb (stopsBeacon air p beacons) 0)
     (record { answer = beaconStep p .answer; frames = framesAfter air frames (beaconStep p .frame); beacons = beacons + 1 })
     (record { answer = beaconing.the-variants.Refused (stopsBeacon air p beacons); frames = frames; beacons = beacons })
 
+-- the air after it
 unfoldable pub postBeaconsAir : List ℕ → Post → ℕ → ℕ → List ℕ
 postBeaconsAir air p frames beacons = cond (eqb (stopsBeacon air p beacons) 0) (airWith air frames (beaconStep p .frame)) air
 
--- the yard after a beacon
+-- y with so many frames on the air, and so many beacons sent
 abbrev pub withBeacons : Yard → ℕ → ℕ → Yard
 withBeacons y frames beacons = record {
   present = y .present;
@@ -142,11 +153,13 @@ withBeacons y frames beacons = record {
   first = y .first;
 }
 
+-- the yard in which the post of a lane sends a beacon
 unfoldable pub yardBeacons : List ℕ → Yard → ℕ → YardBeaconed
 yardBeacons air y lane =
     let s = postBeacons air (postAt y lane) (y .frames) (y .beacons) in
     cond (ltb lane 8) (record { answer = s .answer; yard = withBeacons y (s .frames) (s .beacons) })
     (record { answer = beaconing.the-variants.Refused 4; yard = y })
 
+-- the air after it
 unfoldable pub yardBeaconsAir : List ℕ → Yard → ℕ → List ℕ
 yardBeaconsAir air y lane = cond (ltb lane 8) (postBeaconsAir air (postAt y lane) (y .frames) (y .beacons)) air

@@ -21,6 +21,7 @@ single w (order lane word) = record { yard = yardOrders (w .air) (w .yard) lane 
 single w (hear lane k) = record { yard = yardHears (w .air) (w .yard) lane k .yard; air = yardHearsAir (w .air) (w .yard) lane k }
 single w (beacon lane) = record { yard = yardBeacons (w .air) (w .yard) lane .yard; air = yardBeaconsAir (w .air) (w .yard) lane }
 
+-- a list of them, one after another
 unfoldable pub singles : World → List Single → World
 singles w [] = w
 singles w (s ∷ l) = singles (single w s) l

@@ -64,7 +64,8 @@ pub(crate) fn broadcast(air: &mut [u8], frames: u16, f: Frame) -> u16
     if number == 0 { frames + 1 } else { frames }
 }
 
-// Where an order was broadcast as frame `before`, that is the number of its first frame.
+// Where an order was broadcast as frame `before`, that is the number of its first frame. The table has the shape of the words:
+// a number of 16 bits at each order's place.
 pub(crate) fn note_first(first: &mut [u16; 128], lane: u8, serial: Serial, before: u16, after: u16)
     ensures { λ _. ⌜ now (first .exit) ≡ cond (ltb before after) (set (now (first .entry)) (orderPlace lane (serial .0)) before) (now (first .entry)) ⌝ }
 {

@@ -1,8 +1,11 @@
 /*
  * DRIFT for the radio firmware: the check of a received frame.
+ * DRIFT for a host: a yard, run by a script.
  *
- * Link with target/staticlib/libframe.a, which `rt staticlib frame` makes.
- * Nothing else is needed: the archive calls no other library.
+ * For the frame check alone link with target/staticlib/libframe.a, which
+ * `rt staticlib frame` makes; for scripts with target/staticlib/libscript.a,
+ * which `rt staticlib script` makes. libframe.a calls no other library,
+ * libscript.a only memcpy and memset, which every C compiler asks for.
  */
 #ifndef DRIFT_H
 #define DRIFT_H
@@ -56,6 +59,40 @@ enum drift_frame_answer {
  * registers, so an interrupt handler that calls it must save those.
  */
 uint8_t drift_frame_check(const uint8_t *bytes, size_t length);
+
+/* The longest script that is not refused, in bytes (refusal 1). */
+#define DRIFT_LONGEST_SCRIPT 48000
+
+/* Number of bytes of the air (refusal 13). */
+#define DRIFT_AIR_LENGTH 65536
+
+/* Number of bytes of the output. Every printout fits. */
+#define DRIFT_OUTPUT_LENGTH 131072
+
+/*
+ * Runs a script over a fresh yard and the lent air, and prints into the lent
+ * output: what the yard program prints for the same script.
+ *
+ * Returns the number of bytes printed, which are the first of the output; the
+ * bytes after them keep what they held. Every script prints something: one
+ * that is refused prints `(bad LINE NUMBER)`, and the air keeps its bytes.
+ * Returns 0 only if output_length is not DRIFT_OUTPUT_LENGTH; then air and
+ * output keep their bytes.
+ *
+ * The air's bytes may be anything at first, and hold the broadcast frames
+ * afterwards. If air_length is not DRIFT_AIR_LENGTH each step is refused by 13
+ * and the air keeps its bytes.
+ *
+ * script must point to script_length readable bytes, air and output to
+ * air_length and output_length readable and writable ones; the three do not
+ * overlap. With length 0 a pointer may be NULL. No pointer is kept.
+ *
+ * It has no state, needs no initialisation and no heap. It uses some 64 KB of
+ * the caller's stack: have 128 KB free.
+ */
+size_t drift_run_script(const uint8_t *script, size_t script_length,
+                        uint8_t *air, size_t air_length,
+                        uint8_t *output, size_t output_length);
 
 #ifdef __cplusplus
 }

@@ -21,10 +21,11 @@ use Rattle.yard.specs.Yards.{postAt}
 use Rattle.yard.specs.Singles.{frameAt}
 use Rattle.yard.specs.Worlds.{World, hear}
 use Rattle.roll.specs.Runs.{one, answer, sentBy}
+use Rattle.roll.specs.Answers.{answerNumber}
 use Rattle.laws.proofs.TestLaws.{same-or-not, below-or-not, true-or-false}
 use Rattle.model.proofs.Model as model
 use Rattle.model.proofs.Invariants.{FrameOk, YardOk}
-use Rattle.agreement.specs.YardRefusals.{answerNumber, hearYardRefusal}
+use Rattle.agreement.specs.YardRefusals.{hearYardRefusal}
 use Rattle.agreement.proofs.Views.{rolesOf, frameView, yardView}
 use Rattle.agreement.proofs.AirViews.{air-at}
 use Rattle.agreement.proofs.PostViews.{view-takes}

@@ -9,11 +9,12 @@ use borrow.Author.Tests.{eq-eqb, ne-eqb}
 use Rattle.yard.specs.Worlds.{World, Single, singles}
 use Rattle.roll.specs.RollCall.{rollSteps, rollRefusal, rollCall, rollCallAir}
 use Rattle.roll.specs.Runs.{Step, one, roll, answer, step, run, Order, sentBy, sent}
+use Rattle.roll.specs.Answers.{answerNumber}
 use Rattle.laws.proofs.TestLaws.{same-or-not}
 use Rattle.model.proofs.Model as model
 use Rattle.model.proofs.Invariants.{RolesOk}
 use Rattle.model.proofs.Moves.{rollRefused, move, sentIn, moves, allSent, Good, single-good, move-good, good-clock, good-frames}
-use Rattle.agreement.specs.YardRefusals.{answerNumber, stepRefusal}
+use Rattle.agreement.specs.YardRefusals.{stepRefusal}
 use Rattle.agreement.proofs.Views.{rolesOf, yardView}
 use Rattle.agreement.proofs.Sound.{Sound}
 use Rattle.agreement.proofs.Simulates.{Fit, Simulates}

@@ -10,11 +10,12 @@ use Rattle.cells.specs.Sets.{hasLane}
 use Rattle.yard.specs.Singles.{frameAt}
 use Rattle.yard.specs.Worlds.{World, Single, order, hear, beacon, single}
 use Rattle.roll.specs.Runs.{one, answer, orderSentBy, sentBy}
+use Rattle.roll.specs.Answers.{answerNumber}
 use Rattle.laws.proofs.TestLaws.{below-or-not}
 use Rattle.model.proofs.Model as model
 use Rattle.model.proofs.Invariants.{YardOk}
 use Rattle.model.proofs.RollAccepted.{refusedBy}
-use Rattle.agreement.specs.YardRefusals.{answerNumber, orderYardRefusal, hearYardRefusal, beaconYardRefusal, stepRefusal}
+use Rattle.agreement.specs.YardRefusals.{orderYardRefusal, hearYardRefusal, beaconYardRefusal, stepRefusal}
 use Rattle.agreement.proofs.Views.{rolesOf, airView, yardView}
 use Rattle.agreement.proofs.Sound.{Sound}
 use Rattle.agreement.proofs.OrderWays.{OrderStays}

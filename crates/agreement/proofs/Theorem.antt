@@ -13,6 +13,7 @@ use Rattle.roll.specs.declared.RollAnswer as calling
 use Rattle.roll.specs.RollCall.{rollSteps, rollRefusal, rollCall}
 use Rattle.roll.specs.Runs.{Step, roll, Answer, ordered, heard, beaconed, called, answer, step, run, sent}
 use Rattle.roll.specs.Logs.{logAt, inOrder, sumBelow, ordersTaken}
+use Rattle.roll.specs.Answers.{answerNumber}
 use Rattle.laws.proofs.TestLaws.{same-or-not}
 use Rattle.laws.proofs.ListLaws.{Begins}
 use Rattle.laws.proofs.Valid.{valid-judged}
@@ -21,7 +22,6 @@ use Rattle.model.proofs.Invariants.{RolesOk}
 use Rattle.model.proofs.Air.{total-bound}
 use Rattle.model.proofs.RollAccepted.{roll-accepted}
 use Rattle.model.proofs.Moves as moving
-use Rattle.agreement.specs.YardRefusals.{answerNumber}
 use Rattle.agreement.specs.Demand3.{freshWorld, AllAccepted, RollCalled, FirstFrame, Demand3, Agreement}
 use Rattle.agreement.proofs.Views.{rolesOf, placesView, airView, yardView}
 use Rattle.agreement.proofs.ArrayViews.{places-in}
@@ -52,7 +52,7 @@ roll-ran w n e = go (same-or-not (rollRefusal w) 0)
     go (inr ne) = absurd (ne (let r : _≡_ {A = ℕ} (rollRefusal w) 0 = rw (ne-eqb (rollRefusal w) 0 ne) at (ap answerNumber e) in r))
 
 -- a list of steps and one more
-run-last : (v : World) (l : List Step) (s : Step) → run v (l ++ (s ∷ [])) ≡ step (run v l) s
+pub run-last : (v : World) (l : List Step) (s : Step) → run v (l ++ (s ∷ [])) ≡ step (run v l) s
 unfolding run
 run-last v [] s = refl
 run-last v (x ∷ l) s = run-last (step v x) l s
@@ -68,7 +68,7 @@ module _ (present sources dests : ℕ) (air : List ℕ) (small : present < 256) 
     abbrev R : model.Roles
     R = rolesOf present sources dests
 
-    ro : RolesOk R
+    pub ro : RolesOk R
     ro = roles-ok present sources dests small smallSources smallDests z
 
     abbrev Y : model.Yard
@@ -80,7 +80,7 @@ module _ (present sources dests : ℕ) (air : List ℕ) (small : present < 256) 
     start-keeps : Keeps present sources dests smallSources ro (yardView w)
     start-keeps = ([], subst (λ (X : model.Yard). moving.Good R ro X []) (sym (fresh-view present sources dests air)) (moving.fresh-good R ro (airView air 0)))
 
-    reached : (steps : List Step) → RunSimulates present sources dests smallSources ro w steps
+    pub reached : (steps : List Step) → RunSimulates present sources dests smallSources ro w steps
     reached steps = run-simulates present sources dests smallSources ro w start start-keeps steps
 
     -- the model after the same steps
@@ -90,7 +90,7 @@ module _ (present sources dests : ℕ) (air : List ℕ) (small : present < 256) 
     sends : (steps : List Step) → sent w steps ≡ moving.allSent R Y steps
     sends steps = reached steps .sends ∙ ap (λ (X : model.Yard). moving.allSent R X steps) (fresh-view present sources dests air)
 
-    good : (steps : List Step) → moving.Good R ro (yardView (run w steps)) (sent w steps)
+    pub good : (steps : List Step) → moving.Good R ro (yardView (run w steps)) (sent w steps)
     good steps = rw (view steps, sends steps) (moving.good R ro (airView air 0) steps)
 
     each : (steps : List Step) (s : Step) → StepSimulates present sources dests smallSources ro (run w steps) s

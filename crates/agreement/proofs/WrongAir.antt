@@ -9,8 +9,9 @@ use borrow.Author.Tests.{lt-ltb, le-ltb, ne-eqb}
 use Rattle.yard.specs.Worlds.{World, order, hear, beacon}
 use Rattle.roll.specs.RollCall.{rollRefusal, rollCall, rollCallAir}
 use Rattle.roll.specs.Runs.{Step, one, roll, answer, step, run, orderSentBy, sentBy, sent}
+use Rattle.roll.specs.Answers.{answerNumber}
 use Rattle.laws.proofs.TestLaws.{below-or-not}
-use Rattle.agreement.specs.YardRefusals.{answerNumber, orderYardRefusal, hearYardRefusal, beaconYardRefusal, stepRefusal}
+use Rattle.agreement.specs.YardRefusals.{orderYardRefusal, hearYardRefusal, beaconYardRefusal, stepRefusal}
 use Rattle.agreement.proofs.OrderWays.{order-4, order-5, order-13}
 use Rattle.agreement.proofs.HearWays.{hear-4, hear-13}
 use Rattle.agreement.proofs.BeaconWays.{beacon-4, beacon-13}

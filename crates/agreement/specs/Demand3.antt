@@ -16,8 +16,9 @@ use Rattle.roll.specs.declared.RollAnswer as calling
 use Rattle.roll.specs.RollCall.{rollSteps}
 use Rattle.roll.specs.Runs.{Step, one, roll, answer, called, step, run, Order, sent}
 use Rattle.roll.specs.Logs.{logAt, inOrder, Rising, ordersTaken}
+use Rattle.roll.specs.Answers.{answerNumber}
 use Rattle.laws.specs.Lists.{Mem, Begins}
-use Rattle.agreement.specs.YardRefusals.{answerNumber, stepRefusal}
+use Rattle.agreement.specs.YardRefusals.{stepRefusal}
 
 -- a fresh yard of three sets of lanes, and any air
 abbrev pub freshWorld : ℕ → ℕ → ℕ → List ℕ → World

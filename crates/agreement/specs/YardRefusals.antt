@@ -5,24 +5,11 @@ use mathlib.Core.Bool.{cond, not}
 use lib.Dec.{ltb, leb, eqb}
 use Rattle.air.specs.Air.{badAir}
 use Rattle.cells.specs.Sets.{hasLane}
-use Rattle.steps.specs.Answers.{orderNumber, hearNumber, beaconNumber}
 use Rattle.yard.specs.Yards.{postAt}
 use Rattle.yard.specs.Singles.{frameAt}
 use Rattle.yard.specs.Worlds.{World, order, hear, beacon}
-use Rattle.roll.specs.declared.RollAnswer as calling
 use Rattle.roll.specs.RollCall.{rollRefusal}
-use Rattle.roll.specs.Runs.{Step, one, roll, Answer, ordered, heard, beaconed, called}
-
--- the refusal's number of any answer, or 0
-abbrev pub rollNumber : calling.RollAnswer → ℕ
-rollNumber (calling.the-variants.Called count) = 0
-rollNumber (calling.the-variants.Refused number) = number
-
-abbrev pub answerNumber : Answer → ℕ
-answerNumber (ordered a) = orderNumber a
-answerNumber (heard a) = hearNumber a
-answerNumber (beaconed a) = beaconNumber a
-answerNumber (called a) = rollNumber a
+use Rattle.roll.specs.Runs.{Step, one, roll}
 
 -- order: 4, 5, 13, 21, 22, 23 ("That lane has sent 16")
 unfoldable pub orderYardRefusal : World → ℕ → ℕ → ℕ

@@ -4,10 +4,12 @@ mod frames;
 mod posts;
 mod printing;
 mod refusals;
+mod scripts;
 mod telling;
 mod yards;
 
 fn main() {
+    scripts::printouts();
     in_a_yard();
     posts::printed_script();
     frames::frame_written();

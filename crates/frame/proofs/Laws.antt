@@ -2,16 +2,20 @@
 use mathlib.Core.Path.{_≡_, refl, sym, _∙_, ap₂}
 use mathlib.Core.Bool.{Bool, true, false, cond, _||_}
 use mathlib.Core.List.{List, _++_, append-nil}
-use Prim.Native.Nat.{ℕ, _+_, _<_}
+use Prim.Native.Nat.{ℕ, _+_, _%_, _^_, _<_}
 use native.Mathlib.Numerals.{add-one}
 use native.Mathlib.Omega.{arith}
 use borrow.Author.Tests.{eq-eqb, ne-eqb, eqb-true, not-false}
 use lib.ListN.{length, take, drop, drop-of-length-le}
+use lib.Dec.{T, ltb, lit<}
 use lib.Seq.{take-length}
+use mir.Syntax.{w8, w64}
+use mir.Val.{Fits}
 use Rattle.frame.specs.Lanes.{anyBelow}
 use Rattle.frame.specs.Layout.{frameOf, bytesOf, joined, fieldBytes}
 use Rattle.frame.specs.Refusals.{badLength, frameRefusal, readRefusal, writeRefusal}
 use Rattle.frame.specs.ReadWrite.{refusedRead, readOf, written}
+use Rattle.frame.specs.declared.Entry.{Entry}
 use Rattle.frame.specs.declared.Frame.{Frame}
 use Rattle.frame.specs.declared.FrameRead.{FrameRead}
 
@@ -19,6 +23,36 @@ use Rattle.frame.specs.declared.FrameRead.{FrameRead}
 pub any-more : (test : ℕ → Bool) (n : ℕ) (b x : Bool) → b ≡ anyBelow test n → x ≡ test n → (b || x) ≡ anyBelow test (n + 1)
 unfolding anyBelow
 any-more test n b x p q = rw add-one (ap₂ _||_ p q)
+
+-- the low byte of a number is a byte
+pub low-byte : (n : ℕ) → Fits w8 (n % 256)
+low-byte n = record { fits = omega arith }
+
+-- an index below 32 is within 32 bytes
+pub in-32 : {n : ℕ} (i : ℕ) → n ≡ 32 → T (ltb i 32) → i < n
+in-32 i e t = rw e (lit< t)
+
+-- an index is within bytes that go on for two more
+pub two-more : (i n : ℕ) → i + 2 < n → i < n
+two-more i n h = omega arith
+
+pub one-and-one-more : (i n : ℕ) → i + 2 < n → i + 1 + 1 < n
+one-and-one-more i n h = omega arith
+
+pub next-fits : (i n : ℕ) → i + 2 < n → n < 2 ^ 64 → Fits w64 (i + 1)
+next-fits i n h k = record { fits = omega arith }
+
+-- entries of one serial are equal if their stamps are
+pub same-stamp : {serial m n : ℕ} → m ≡ n
+    → _≡_ {A = Entry} (record { serial = record { 0 = serial }; stamp = record { 0 = m } }) (record { serial = record { 0 = serial }; stamp = record { 0 = n } })
+same-stamp e = rw e
+
+-- frames are equal if their stamps, words and entries are, beside fields that are the same
+pub same-frame : {kind sender lane serial m n v w : ℕ} {es fs : List Entry} → m ≡ n → v ≡ w → es ≡ fs
+    → _≡_ {A = Frame}
+    (record { kind = kind; sender = sender; lane = lane; serial = record { 0 = serial }; stamp = record { 0 = m }; word = v; entries = es })
+    (record { kind = kind; sender = sender; lane = lane; serial = record { 0 = serial }; stamp = record { 0 = n }; word = w; entries = fs })
+same-frame p q e = rw (p, q, e)
 
 -- 32 bytes copied onto 32
 pub copied : (bytes buffer exit : List ℕ) → length bytes ≡ 32 → length buffer ≡ 32

@@ -2,3 +2,4 @@ pub mod RollCall
 pub mod Loops
 pub mod Runs
 pub mod Logs
+pub mod Answers

@@ -1,5 +1,5 @@
 pub mod Table
 pub mod YardTable
 pub mod Beacons
+pub mod BadInput
 pub mod RefusalTable
-pub mod Joint

@@ -1,5 +1,7 @@
 -- Every refusal of the joint table, by computing the definitions; after a thousand beacons by Beacons.antt. Assumes nothing.
 use mathlib.Core.Path.{refl}
+use Prim.Native.Nat.{ℕ}
+use lib.ListN.{replicate, length-replicate}
 use Rattle.frame.specs.Lanes.{anyBelow}
 use Rattle.frame.specs.Layout.{frameOf, bytesOf}
 use Rattle.frame.specs.Refusals.{badEntries, frameRefusal, readRefusal}
@@ -15,23 +17,24 @@ use Rattle.yard.specs.Singles.{framesAfter, postOrders, postOrdersAir, firstAft
 use Rattle.yard.specs.Worlds.{single}
 use Rattle.roll.specs.RollCall.{rollRefusal, rollCall, rollCallAir}
 use Rattle.roll.specs.Runs.{answer, step, run}
-use Rattle.table.specs.Scripts.{ordersSentBy0}
+use Rattle.table.specs.Scripts.{three, airOf, began, ordersSentBy0}
 use Rattle.table.specs.RefusalCases.{RefusalBench}
+use Rattle.table.proofs.BadInput.{order-lane, hear-lane, beacon-lane, order-word, order-short, order-long, hear-short, beacon-short, roll-short, order-nobody, hear-nobody}
 use Rattle.table.proofs.Beacons.{beacon-1024-passes, beacon-1025-refused, lane-3-not-there, roll-passes, roll-refused}
 
 pub refusalBench : RefusalBench
 unfolding anyBelow frameOf bytesOf badEntries frameRefusal readRefusal placeRefusal placed airWith stampUnder withStamp raised raisedBelow newer newestBelow newestEntries kept ticked ordered raisedPost taken allBelow isLogged isDue dueBelow insertKey sort duePlaces dueLog delivered orderRefusalBy strangeEntries hearRefusalBy orderSent orderStep hearTaken hearStep freshYard framesAfter postOrders postOrdersAir firstAfter yardOrders yardOrdersAir postHears postHearsAir yardHears yardHearsAir postBeacons postBeaconsAir yardBeacons yardBeaconsAir single rollRefusal rollCall rollCallAir answer step run ordersSentBy0
 refusalBench = record {
-  order-4 = (refl, refl);
-  hear-4 = (refl, refl);
-  beacon-4 = (refl, refl);
+  order-4 = order-lane (run three began) 1;
+  hear-4 = hear-lane (run three began) 0;
+  beacon-4 = beacon-lane (run three began);
   word-65535 = refl;
   order-5 = (refl, refl);
-  order-13 = (refl, refl);
-  order-13-long = (refl, refl);
-  hear-13 = (refl, refl);
-  beacon-13 = (refl, refl);
-  roll-13 = (refl, refl);
+  order-13 = order-short (replicate 65535 0) (length-replicate {A = ℕ} 65535 0);
+  order-13-long = order-long (replicate 65537 0) (length-replicate {A = ℕ} 65537 0);
+  hear-13 = hear-short (replicate 65535 0) (length-replicate {A = ℕ} 65535 0);
+  beacon-13 = beacon-short (replicate 65535 0) (length-replicate {A = ℕ} 65535 0);
+  roll-13 = roll-short (replicate 65535 0) (length-replicate {A = ℕ} 65535 0);
   order-21 = (refl, refl);
   hear-21 = (refl, refl);
   beacon-21 = (refl, refl);
@@ -45,10 +48,10 @@ refusalBench = record {
   beacon-27 = beacon-1025-refused;
   roll-2-left = roll-passes;
   roll-27 = roll-refused;
-  order-4-wins = (refl, refl);
-  order-5-wins = (refl, refl);
-  order-13-wins = (refl, refl);
-  hear-13-wins = (refl, refl);
+  order-4-wins = order-lane (airOf 65535) 65536;
+  order-5-wins = order-word (replicate 65535 0);
+  order-13-wins = order-nobody (replicate 65535 0) (length-replicate {A = ℕ} 65535 0);
+  hear-13-wins = hear-nobody (replicate 65535 0) (length-replicate {A = ℕ} 65535 0);
   hear-21-wins = (refl, refl);
   beacon-21-wins = lane-3-not-there;
 }

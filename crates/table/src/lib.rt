@@ -1,1 +1,1 @@
-// The joint table of the yard bench of document 01, as theorems of the definitions (specs/Joint.antt, proofs/Joint.antt).
+// The yard bench of document 01 but for scripts, as theorems of the definitions: three of the joint table's records (crate `script_table`).

@@ -26,4 +26,4 @@ returns : tie.Need-returns Inv-loop μ-loop
 returns c = let e : c .before .loop .i ≡ 8 = omega arith in rw e at (c .before .loop .inv .1)
 
 pub bad-last-spec : {M : Type 1} → statement M
-bad-last-spec = tie.close (tie.spec Inv-loop μ-loop loop-holds (λ c κs. search needs) (λ c. search needs) (λ c. search needs) loop-again returns)
+bad-last-spec = tie.close (tie.spec Inv-loop μ-loop loop-holds (λ c κs. tt) (λ c. search needs) (λ c. search needs) loop-again returns)

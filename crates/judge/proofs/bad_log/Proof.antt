@@ -7,4 +7,4 @@ returns : tie.Need-returns
 returns c = log-parts (c .before .before .before .args .last .now) (c .before .before .before .args .log .now) (c .before .before .before .args .logged) _ _ _ (c .before .before .at-most-128 .ensures) (c .before .bad-used .ensures) (c .bad-unused .ensures)
 
 pub bad-log-spec : {M : Type 1} → statement M
-bad-log-spec = tie.close (tie.spec (λ c κs. search needs) (λ c κs. search needs) (λ c κs. search needs) returns)
+bad-log-spec = tie.close (tie.spec (λ c κs. tt) (λ c κs. tt) (λ c κs. search needs) returns)

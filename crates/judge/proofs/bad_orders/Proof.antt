@@ -25,4 +25,4 @@ returns : tie.Need-returns Inv-loop μ-loop
 returns c = let e : c .before .loop .lane ≡ 8 = omega arith in rw e at (c .before .loop .inv .1)
 
 pub bad-orders-spec : {M : Type 1} → statement M
-bad-orders-spec = tie.close (tie.spec Inv-loop μ-loop loop-holds (λ c κs. search needs) (λ c κs. search needs) (λ c. search needs) (λ c. search needs) loop-again returns)
+bad-orders-spec = tie.close (tie.spec Inv-loop μ-loop loop-holds (λ c κs. tt) (λ c κs. search needs) (λ c. search needs) (λ c. search needs) loop-again returns)

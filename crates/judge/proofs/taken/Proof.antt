@@ -1,4 +1,3 @@
-use borrow.Author.Needs.{needs}
 use Rattle.judge.proofs.taken.Statement.{statement}
 use Rattle.judge.proofs.taken.Tie as tie
 
@@ -6,4 +5,4 @@ returns : tie.Need-returns
 returns c = rw (c .before .last-taken .ensures)
 
 pub taken-spec : {M : Type 1} → statement M
-taken-spec = tie.close (tie.spec (λ c κs. search needs) returns)
+taken-spec = tie.close (tie.spec (λ c κs. tt) returns)

@@ -14,4 +14,4 @@ returns-3 : tie.Need-returns-3
 returns-3 c = call-runs (c .before .before .before .before .before .before .before .before .before .before .args .y) (c .before .before .before .before .before .before .before .before .before .before .args .air .now) _ _ _ (omega arith) (c .before .before .before .before .before .before .before .beacons-left .ensures) (c .before .before .before .before .before .if2 .left) (c .before .before .before .run-steps .ensures .0) (c .before .before .before .run-steps .ensures .1)
 
 pub call-spec : {M : Type 1} → statement M
-call-spec = tie.close (tie.spec returns (λ c κs. search needs) (λ c. search needs) returns-2 (λ c κs. search needs) (λ c. search needs) returns-3)
+call-spec = tie.close (tie.spec returns (λ c κs. tt) (λ c. search needs) returns-2 (λ c κs. tt) (λ c. search needs) returns-3)

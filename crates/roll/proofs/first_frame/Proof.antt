@@ -6,4 +6,4 @@ returns : tie.Need-returns
 returns c = rw (← (c .before .order-place .ensures)) (c .word-at .ensures)
 
 pub first-frame-spec : {M : Type 1} → statement M
-first-frame-spec = tie.close (tie.spec (λ c κs. search needs) (λ c κs. search needs) (λ c. search needs) returns)
+first-frame-spec = tie.close (tie.spec (λ c κs. tt) (λ c κs. tt) (λ c. search needs) returns)

@@ -36,4 +36,4 @@ returns c =
     (r .0, (r .1, omega (arith, c .before .loop .inv .3)))
 
 pub hear-lane-spec : {M : Type 1} → statement M
-hear-lane-spec = tie.close (tie.spec Inv-loop μ-loop loop-holds (λ c. search needs) (λ c κs. search needs) (λ c κs. search needs) (λ c. omega (arith, c .before .before .before .before .before .before .before .loop .inv .3)) (λ c. search needs) loop-again same-length returns)
+hear-lane-spec = tie.close (tie.spec Inv-loop μ-loop loop-holds (λ c. search needs) (λ c κs. tt) (λ c κs. tt) (λ c. omega (arith, c .before .before .before .before .before .before .before .loop .inv .3)) (λ c. search needs) loop-again same-length returns)

@@ -41,4 +41,4 @@ returns c =
     (r .0, (r .1, omega (arith, c .before .loop .inv .3)))
 
 pub hear-lanes-spec : {M : Type 1} → statement M
-hear-lanes-spec = tie.close (tie.spec Inv-loop μ-loop loop-holds (λ c. search needs) (λ c. search needs) (λ c κs. search needs) (λ c. search needs) (λ c. search needs) (λ c. search needs) loop-again same-length returns)
+hear-lanes-spec = tie.close (tie.spec Inv-loop μ-loop loop-holds (λ c. search needs) (λ c. search needs) (λ c κs. tt) (λ c. search needs) (λ c. search needs) (λ c. search needs) loop-again same-length returns)

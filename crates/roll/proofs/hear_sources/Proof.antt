@@ -46,4 +46,4 @@ returns c =
     (r .0, (r .1, omega (arith, c .before .loop .inv .3)))
 
 pub hear-sources-spec : {M : Type 1} → statement M
-hear-sources-spec = tie.close (tie.spec Inv-loop μ-loop loop-holds (λ c κs. search needs) (λ c. search needs) (λ c. search needs) (λ c κs. search needs) (λ c. search needs) (λ c κs. search needs) add-below (λ c. search needs) (λ c. search needs) loop-again same-length returns)
+hear-sources-spec = tie.close (tie.spec Inv-loop μ-loop loop-holds (λ c κs. tt) (λ c. search needs) (λ c. search needs) (λ c κs. tt) (λ c. search needs) (λ c κs. tt) add-below (λ c. search needs) (λ c. search needs) loop-again same-length returns)

@@ -18,4 +18,4 @@ returns c =
     run-all (c .before .before .before .before .before .before .before .before .before .before .before .before .before .before .before .before .before .before .before .args .y) (c .before .before .before .before .before .before .before .before .before .before .before .before .before .before .before .before .before .before .before .args .air .now) _ _ _ _ _ _ (heard .0) (heard .1 .0) (sent .0) (sent .1 .0) (done .0) (done .1 .0)
 
 pub run-steps-spec : {M : Type 1} → statement M
-run-steps-spec = tie.close (tie.spec (λ c κs. search needs) (λ c κs. search needs) (λ c κs. search needs) add-t16 add-t17 (λ c. search needs) returns)
+run-steps-spec = tie.close (tie.spec (λ c κs. tt) (λ c κs. tt) (λ c κs. tt) add-t16 add-t17 (λ c. search needs) returns)

@@ -42,4 +42,4 @@ returns c =
     (r .0, (r .1, omega (arith, c .before .loop .inv .3)))
 
 pub send-beacons-spec : {M : Type 1} → statement M
-send-beacons-spec = tie.close (tie.spec Inv-loop μ-loop loop-holds (λ c κs. search needs) (λ c. search needs) (λ c. search needs) (λ c. search needs) (λ c κs. search needs) (λ c. search needs) (λ c. search needs) (λ c. search needs) loop-again same-length returns)
+send-beacons-spec = tie.close (tie.spec Inv-loop μ-loop loop-holds (λ c κs. tt) (λ c. search needs) (λ c. search needs) (λ c. search needs) (λ c κs. tt) (λ c. search needs) (λ c. search needs) (λ c. search needs) loop-again same-length returns)

@@ -28,4 +28,4 @@ returns-4 c =
     (r .0, (r .1, ap beaconNumber (r .0) ∙ beacon-number _ _))
 
 pub beacon-spec : {M : Type 1} → statement M
-beacon-spec = tie.close (tie.spec returns (λ c κs. search needs) returns-2 (λ c κs. search needs) (λ c κs. search needs) (λ c. search needs) returns-3 returns-4)
+beacon-spec = tie.close (tie.spec returns (λ c κs. tt) returns-2 (λ c κs. tt) (λ c κs. tt) (λ c. search needs) returns-3 returns-4)

@@ -36,4 +36,4 @@ returns-5 c =
     (r .0, (r .1, ap (λ (x : Heard). hearNumber (x .answer)) (r .0) ∙ hear-number _ _ _))
 
 pub hear-spec : {M : Type 1} → statement M
-hear-spec = tie.close (tie.spec returns (λ c κs. search needs) returns-2 (λ c κs. search needs) returns-3 (λ c κs. search needs) (λ c κs. search needs) (λ c. search needs) returns-4 returns-5)
+hear-spec = tie.close (tie.spec returns (λ c κs. tt) returns-2 (λ c κs. tt) returns-3 (λ c κs. tt) (λ c κs. tt) (λ c. search needs) returns-4 returns-5)

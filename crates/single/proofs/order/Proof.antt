@@ -29,4 +29,4 @@ returns-4 c =
     (r .0, (r .1, ap (λ (x : Ordered). orderNumber (x .answer)) (r .0) ∙ order-number _ _ _))
 
 pub order-spec : {M : Type 1} → statement M
-order-spec = tie.close (tie.spec returns (λ c κs. search needs) returns-2 (λ c κs. search needs) (λ c κs. search needs) (λ c. search needs) returns-3 returns-4)
+order-spec = tie.close (tie.spec returns (λ c κs. tt) returns-2 (λ c κs. tt) (λ c κs. tt) (λ c. search needs) returns-3 returns-4)

@@ -1,6 +1,5 @@
 use Rattle.steps.proofs.Ways.{can-rise, order-sends, order-refused}
 use mathlib.Core.Path.{sym, _∙_}
-use borrow.Author.Needs.{needs}
 use Rattle.steps.proofs.order.Statement.{statement}
 use Rattle.steps.proofs.order.Tie as tie
 
@@ -14,4 +13,4 @@ returns-2 : tie.Need-returns-2
 returns-2 c = order-refused _ _ _ _ (c .before .before .refusal .ensures) (c .before .if1 .left) (c .none .ensures)
 
 pub order-spec : {M : Type 1} → statement M
-order-spec = tie.close (tie.spec (λ c κs. search needs) send-requires (λ c κs. search needs) returns returns-2)
+order-spec = tie.close (tie.spec (λ c κs. tt) send-requires (λ c κs. tt) returns returns-2)

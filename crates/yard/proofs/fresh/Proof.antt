@@ -1,5 +1,4 @@
 use Rattle.yard.proofs.FreshWays.{fresh-made, fresh-refused}
-use borrow.Author.Needs.{needs}
 use Rattle.yard.proofs.fresh.Statement.{statement}
 use Rattle.yard.proofs.fresh.Tie as tie
 
@@ -10,4 +9,4 @@ returns-2 : tie.Need-returns-2
 returns-2 c = fresh-refused _ _ _ _ _ _ _ _ (c .before .before .before .before .before .new .ensures) (c .before .before .before .before .refusal .ensures) (c .before .before .before .pick .ensures) (c .before .before .pick2 .ensures) (c .before .if1 .left) (c .fresh-yard2 .ensures)
 
 pub fresh-spec : {M : Type 1} → statement M
-fresh-spec = tie.close (tie.spec (λ c κs. search needs) (λ c κs. search needs) (λ c κs. search needs) (λ c κs. search needs) (λ c κs. search needs) (λ c κs. search needs) returns returns-2)
+fresh-spec = tie.close (tie.spec (λ c κs. tt) (λ c κs. tt) (λ c κs. tt) (λ c κs. tt) (λ c κs. tt) (λ c κs. tt) returns returns-2)

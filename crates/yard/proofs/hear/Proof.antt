@@ -1,5 +1,6 @@
 use Rattle.yard.proofs.HearWays.{hear-over-7, hear-runs}
-use borrow.Author.Needs.{needs}
+use borrow.Author.Needs.{scaled-fits}
+use lib.Dec.{lit<}
 use Rattle.yard.proofs.hear.Statement.{statement}
 use Rattle.yard.proofs.hear.Tie as tie
 
@@ -10,4 +11,4 @@ returns-2 : tie.Need-returns-2
 returns-2 c = hear-runs _ _ _ _ _ _ (c .before .before .before .before .before .before .if1 .left) (c .before .before .before .post-hears .ensures .0) (c .before .before .before .post-hears .ensures .1)
 
 pub hear-spec : {M : Type 1} → statement M
-hear-spec = tie.close (tie.spec returns (λ c. search needs) (λ c. search needs) (λ c κs. search needs) (λ c. search needs) (λ c. search needs) (λ c. search needs) returns-2)
+hear-spec = tie.close (tie.spec returns (λ c. scaled-fits _ 8 _ (c .if1 .left) (lit< tt)) (λ c. c .if1 .left) (λ c κs. tt) (λ c. scaled-fits _ 8 _ (c .before .before .before .before .before .before .if1 .left) (lit< tt)) (λ c. c .before .before .before .before .before .before .if1 .left) (λ c. c .before .before .before .post-hears .kept .1 .0) returns-2)

@@ -1,4 +1,3 @@
-use borrow.Author.Needs.{needs}
 use Rattle.steps.proofs.hearing.beyond_own.Statement.{statement}
 use Rattle.steps.proofs.hearing.beyond_own.Tie as tie
 
@@ -6,4 +5,4 @@ returns : tie.Need-returns
 returns c = rw (c .before .before .before .before .before .before .before .before .before .own-entry .ensures)
 
 pub beyond-own-spec : {M : Type 1} → statement M
-beyond-own-spec = tie.close (tie.spec (λ c κs. search needs) returns)
+beyond-own-spec = tie.close (tie.spec (λ c κs. tt) returns)

@@ -2,7 +2,6 @@ use Rattle.steps.proofs.Ways.{take-source, take-other}
 use mathlib.Core.Path.{sym, ap, _∙_}
 use native.Mathlib.Omega.{arith}
 use Rattle.frame.specs.declared.Stamp.{Stamp}
-use borrow.Author.Needs.{needs}
 use Rattle.steps.proofs.hearing.take_in.Statement.{statement}
 use Rattle.steps.proofs.hearing.take_in.Tie as tie
 
@@ -16,4 +15,4 @@ returns-2 : tie.Need-returns-2
 returns-2 c = take-other (c .before .before .before .before .before .before .before .before .before .before .before .before .args .p) _ _ _ _ _ _ _ (c .before .before .before .before .before .before .before .before .before .before .before .order-place .ensures) (c .before .before .before .before .before .before .before .before .raise-all .ensures) (c .before .before .before .before .before .before .put-last .ensures) (c .before .before .before .before .put-stamp-at .ensures) (c .before .before .put-word-at .ensures) (c .before .has .ensures) (c .if1 .left)
 
 pub take-in-spec : {M : Type 1} → statement M
-take-in-spec = tie.close (tie.spec (λ c κs. search needs) (λ c κs. search needs) (λ c κs. search needs) (λ c κs. search needs) (λ c κs. search needs) (λ c κs. search needs) (λ c κs. search needs) add-t15 (λ c κs. search needs) returns returns-2)
+take-in-spec = tie.close (tie.spec (λ c κs. tt) (λ c κs. tt) (λ c κs. tt) (λ c κs. tt) (λ c κs. tt) (λ c κs. tt) (λ c κs. tt) add-t15 (λ c κs. tt) returns returns-2)

@@ -7,4 +7,4 @@ returns : tie.Need-returns
 returns c = send-is _ (c .before .before .before .before .before .before .before .take-own .result) _ _ _ (c .before .before .before .before .before .before .before .take-own .ensures) (c .before .before .newest-entries .ensures) (c .before .deliver .ensures)
 
 pub send-spec : {M : Type 1} → statement M
-send-spec = tie.close (tie.spec (λ c κs. search needs) (λ c κs. search needs) (λ c κs. search needs) returns)
+send-spec = tie.close (tie.spec (λ c κs. search needs) (λ c κs. tt) (λ c κs. tt) returns)

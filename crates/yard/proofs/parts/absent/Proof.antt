@@ -1,5 +1,4 @@
 use Rattle.yard.proofs.PartWays.{absent-is}
-use borrow.Author.Needs.{needs}
 use Rattle.yard.proofs.parts.absent.Statement.{statement}
 use Rattle.yard.proofs.parts.absent.Tie as tie
 
@@ -7,4 +6,4 @@ returns : tie.Need-returns
 returns c = absent-is _ _ _ _ _ _ _ _ (c .before .before .refusal .ensures) (c .before .has .ensures) (c .pick .ensures)
 
 pub absent-spec : {M : Type 1} → statement M
-absent-spec = tie.close (tie.spec (λ c κs. search needs) (λ c κs. search needs) (λ c κs. search needs) returns)
+absent-spec = tie.close (tie.spec (λ c κs. tt) (λ c κs. tt) (λ c κs. tt) returns)

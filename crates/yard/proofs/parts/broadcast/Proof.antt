@@ -13,4 +13,4 @@ returns-2 : tie.Need-returns-2
 returns-2 c = (not-counted _ _ _ _ (c .before .before .before .write .ensures .0) (c .if1 .left), c .before .before .before .write .ensures .1)
 
 pub broadcast-spec : {M : Type 1} → statement M
-broadcast-spec = tie.close (tie.spec (λ c κs. search needs) add-result (λ c. search needs) returns (λ c. search needs) returns-2)
+broadcast-spec = tie.close (tie.spec (λ c κs. tt) add-result (λ c. search needs) returns (λ c. search needs) returns-2)

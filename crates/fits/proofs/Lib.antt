@@ -1,0 +1,12 @@
+pub mod Decimals
+pub mod TextLengths
+pub mod Beacons
+pub mod ItemLengths
+pub mod LineLengths
+pub mod LineCounts
+pub mod ScriptCounts
+pub mod Runs
+pub mod FirstLine
+pub mod Ends
+pub mod Theorem
+pub mod Printed

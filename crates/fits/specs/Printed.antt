@@ -1,0 +1,23 @@
+-- The logs that a script prints are those of a run that demand 3 speaks of: the statement. Assumes nothing.
+use Prim.Native.Nat.{ℕ}
+use mathlib.Core.Path.{_≡_}
+use mathlib.Core.List.{List, [], _∷_, _++_}
+use Rattle.lines.specs.declared.Line.{Line}
+use Rattle.lines.specs.declared.Line.the-variants.{Yard}
+use Rattle.lines.specs.Lines.{lineAt, judged}
+use Rattle.roll.specs.Runs.{Step, run}
+use Rattle.agreement.specs.Demand3.{Demand3, freshWorld}
+use Rattle.meaning.specs.Script.{stepOf, stepLines, scriptWorld}
+
+-- the steps of some lines
+unfoldable pub stepsOf : List Line → List Step
+stepsOf [] = []
+stepsOf (l ∷ ls) = stepOf l ++ stepsOf ls
+
+-- a script that is not refused runs its steps on the fresh yard of its first line, and demand 3 holds of that yard
+abbrev pub Printed : Type 0
+Printed = (s air : List ℕ) → judged s .number ≡ 0 →
+    (posts : ℕ) × (sources : ℕ) × (dests : ℕ) × (next : ℕ)
+    × (lineAt s 0 ≡ Yard posts sources dests next)
+    × (scriptWorld s air ≡ run (freshWorld posts sources dests air) (stepsOf (stepLines s)))
+    × Demand3 posts sources dests (freshWorld posts sources dests air)

@@ -1,0 +1,57 @@
+// A script's lines as they are read. specs/ defines the forms, how they are read, and refusals 1 to 5; the crate `reader` reads.
+
+// How far a line was read: whether all was of the form so far, the place reached, and the last two numbers read.
+pub struct Scan {
+    pub ok: bool,
+    pub at: usize,
+    pub earlier: u32,
+    pub latest: u32,
+}
+
+// How far a yard line was read: its posts, sources and destinations so far as sets of eight bits, and whether its lanes
+// rise and are at most 7.
+pub struct YardScan {
+    pub ok: bool,
+    pub at: usize,
+    pub posts: u8,
+    pub sources: u8,
+    pub dests: u8,
+    pub rising: bool,
+}
+
+// A line as it was read, with the place of the line after it, or the number that it is refused by (2 to 5).
+pub enum Line {
+    Yard {
+        posts: u8,
+        sources: u8,
+        dests: u8,
+        next: usize,
+    },
+    Order {
+        lane: u8,
+        word: u16,
+        next: usize,
+    },
+    Hear {
+        lane: u8,
+        frame: u32,
+        next: usize,
+    },
+    Beacon {
+        lane: u8,
+        next: usize,
+    },
+    Roll {
+        next: usize,
+    },
+    Refused(u8),
+}
+
+// The first refused line and its number; number 0 for a script that is not refused, beside how many lines it has.
+pub struct Judged {
+    pub line: u16,
+    pub number: u8,
+}
+
+// The longest script, in bytes.
+pub const LONGEST: usize = 48000;

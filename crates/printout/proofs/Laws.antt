@@ -1,0 +1,83 @@
+-- Texts written one after the other, a log's items and a yard's posts one by one. Assumes nothing.
+use mathlib.Core.Path.{_≡_, refl, ap, sym, _∙_}
+use mathlib.Core.Bool.{Bool, true, false, _&&_}
+use mathlib.Core.List.{List, [], _∷_, _++_, map-append, append-nil, append-assoc}
+use Prim.Native.Nat.{ℕ, _+_, _/_, _<_, _≤_}
+use native.Mathlib.Numerals.{add-one}
+use native.Mathlib.Omega.{arith}
+use borrow.Author.Tests.{ltb-true, ltb-false}
+use lib.Dec.{ltb}
+use lib.ListN.{length, take, getD}
+use lib.Seq.{take-suc, take-all}
+use Rattle.text.specs.Bytes.{bytes}
+use Rattle.text.specs.Decimal.{decimal}
+use Rattle.text.specs.Writing.{Out, out, wrote}
+use Rattle.text.proofs.Laws.{next}
+use Rattle.cells.specs.Sets.{hasLane}
+use Rattle.frame.specs.declared.Stamp.{Stamp}
+use Rattle.yard.specs.declared.Yard.{Yard}
+use Rattle.yard.specs.Yards.{postAt}
+use Rattle.roll.specs.Runs.{Order}
+use Rattle.meaning.specs.Texts.{itemText, itemsText, postText, postsText}
+use Rattle.printout.specs.Items.{itemOf, itemsOf}
+
+-- a text and a number after what is written
+pub labelled : (o : Out) (t a b : List ℕ) {p q : Out} → p ≡ wrote o t → q ≡ wrote p (a ++ b) → q ≡ wrote o (t ++ a ++ b)
+labelled o t a b e f = rw (append-assoc t a b) (next o t (a ++ b) e f)
+
+-- an item, from the stamp and the word read at its place
+pub item-wrote : (o p q r z : Out) (stamps words : List ℕ) (place : ℕ) (stamp : Stamp) (word : ℕ)
+    → stamp ≡ record { 0 = getD stamps place 0 } → word ≡ getD words place 0
+    → p ≡ wrote o (bytes " (" ++ decimal (stamp .0)) → q ≡ wrote p (bytes " " ++ decimal (place / 16)) → r ≡ wrote q (bytes " " ++ decimal word) → z ≡ wrote r (bytes ")")
+    → z ≡ wrote o (itemOf stamps words place)
+unfolding itemText
+item-wrote o p q r z stamps words place stamp word es ew e1 e2 e3 e4 =
+    rw (es, ew) at (next _ _ _ (labelled _ _ (bytes " ") _ (labelled _ _ (bytes " ") _ e1 e2) e3) e4)
+
+-- one item more at the end
+items-one : (l : List Order) (x : Order) → itemsText (l ++ (x ∷ [])) ≡ itemsText l ++ itemText x
+unfolding itemsText
+items-one [] x = append-nil (itemText x)
+items-one (y ∷ l) x = ap (λ (t : List ℕ). itemText y ++ t) (items-one l x) ∙ sym (append-assoc (itemText y) (itemsText l) (itemText x))
+
+-- the item at place k of a log after those before it
+pub items-more : (o p q : Out) (stamps words log : List ℕ) (k : ℕ) → k < length log
+    → p ≡ wrote o (itemsOf stamps words (take k log)) → q ≡ wrote p (itemOf stamps words (getD log k 0))
+    → q ≡ wrote o (itemsOf stamps words (take (k + 1) log))
+items-more o p q stamps words log k h e f =
+    rw (add-one, take-suc log k 0, map-append, items-one) (next _ _ _ e f)
+
+-- both tests of the loop over a log
+pub tests-hold : (k n m : ℕ) → (ltb k n && ltb k m) ≡ true → (k < n) × (k < m)
+tests-hold k n m h = go (ltb k n) refl (ltb k m) refl h where
+  go : (b : Bool) → ltb k n ≡ b → (c : Bool) → ltb k m ≡ c → (b && c) ≡ true → (k < n) × (k < m)
+  go true f true g h = (ltb-true _ _ f, ltb-true _ _ g)
+  go true f false g h = absurd (let z : _≡_ {A = ℕ} 0 1 = cc in omega arith)
+  go false f c g h = absurd (let z : _≡_ {A = ℕ} 0 1 = cc in omega arith)
+
+-- where one fails, every item asked for is written
+pub items-done : (log : List ℕ) (k n : ℕ) → k ≤ n → (ltb k n && ltb k (length log)) ≡ false → take k log ≡ take n log
+items-done log k n low h = go (ltb k n) refl (ltb k (length log)) refl h where
+  go : (b : Bool) → ltb k n ≡ b → (c : Bool) → ltb k (length log) ≡ c → (b && c) ≡ false → take k log ≡ take n log
+  go true f true g h = absurd (let z : _≡_ {A = ℕ} 0 1 = cc in omega arith)
+  go true f false g h =
+      let s : length log ≤ k = ltb-false _ _ g in
+      take-all k log s ∙ sym (take-all n log (omega arith))
+  go false f c g h =
+      let s : n ≤ k = ltb-false _ _ f in
+      let e : k ≡ n = omega arith in
+      ap (λ (i : ℕ). take i log) e
+
+module _ (o : Out) (y : Yard) (lane : ℕ) (b : Bool) (buffer buffer′ : List ℕ) (at at′ : ℕ) where
+  -- the line of a post in the yard after those below it
+  pub posts-more : (p : Out) → p ≡ wrote o (postsText y lane) → b ≡ hasLane (y .present) lane → b ≡ true
+      → out buffer at ≡ wrote p (postText lane (postAt y lane)) → buffer′ ≡ buffer → at′ ≡ at
+      → out buffer′ at′ ≡ wrote o (postsText y (lane + 1))
+  unfolding postsText
+  posts-more p e eb t f ef ea = rw (add-one, sym eb ∙ t, ef, ea) (next _ _ _ e f)
+
+  -- no line for a lane that has no post
+  pub posts-none : out buffer at ≡ wrote o (postsText y lane) → b ≡ hasLane (y .present) lane → b ≡ false
+      → buffer′ ≡ buffer → at′ ≡ at → out buffer′ at′ ≡ wrote o (postsText y (lane + 1))
+  unfolding postsText
+  posts-none e eb t ef ea = rw (add-one, sym eb ∙ t, append-nil, ef, ea) e

@@ -1,0 +1,106 @@
+// The lines of the printout into a lent buffer. The contracts cite Texts.antt of the crate `meaning`; those of private
+// functions cite specs/Items.antt besides.
+use post::Post;
+use text::put_labelled;
+use text::put_text;
+use yard::Yard;
+ghost use mathlib.Core.Path.{_≡_};
+ghost use lib.ListN.{take};
+ghost use Rattle.text.specs.Writing.{out, wrote};
+ghost use Rattle.meaning.specs.Texts.{badText, refusedText, postText, postsText};
+ghost use Rattle.printout.specs.Items.{refusalOf, headOf, itemOf, itemsOf};
+
+// `(bad LINE NUMBER)`
+pub fn put_bad(buffer: &mut [u8], at: usize, line: u16, number: u8) -> usize
+    ensures { λ r. ⌜ out (now (buffer .exit)) r ≡ wrote (out (now (buffer .entry)) at) (badText line number) ⌝ }
+{
+    put_refusal(buffer, at, b"(bad ", line, number)
+}
+
+// `(refused LINE NUMBER)`
+pub fn put_refused(buffer: &mut [u8], at: usize, line: u16, number: u8) -> usize
+    ensures { λ r. ⌜ out (now (buffer .exit)) r ≡ wrote (out (now (buffer .entry)) at) (refusedText line number) ⌝ }
+{
+    put_refusal(buffer, at, b"(refused ", line, number)
+}
+
+// A label, then `LINE NUMBER)`.
+fn put_refusal(buffer: &mut [u8], at: usize, label: &[u8], line: u16, number: u8) -> usize
+    ensures { λ r. ⌜ out (now (buffer .exit)) r ≡ wrote (out (now (buffer .entry)) at) (refusalOf (now (label .entry)) line number) ⌝ }
+{
+    let a = put_labelled(buffer, at, label, line);
+    let a = put_labelled(buffer, a, b" ", number as u16);
+    put_text(buffer, a, b")\n")
+}
+
+// The posts of a yard, a line each in rising lane order.
+pub fn put_posts(buffer: &mut [u8], at: usize, y: Yard) -> usize
+    ensures { λ r. ⌜ out (now (buffer .exit)) r ≡ wrote (out (now (buffer .entry)) at) (postsText y 8) ⌝ }
+{
+    let mut a = at;
+    for lane in 0..Post::LANES {
+        if cells::has(y.present, lane) {
+            let post = y.posts[lane as usize];
+            a = put_post(buffer, a, lane, post);
+        }
+    }
+    a
+}
+
+// `(post LANE (clock CLOCK) (sent SENT) (log ITEMS))`
+fn put_post(buffer: &mut [u8], at: usize, lane: u8, p: Post) -> usize
+    ensures { λ r. ⌜ out (now (buffer .exit)) r ≡ wrote (out (now (buffer .entry)) at) (postText lane p) ⌝ }
+{
+    let a = put_head(buffer, at, lane, p.clock.0, p.serial.0);
+    let a = put_items(buffer, a, p.logged as usize, &p.log, &p.stamps, &p.words);
+    put_text(buffer, a, b"))\n")
+}
+
+// `(post LANE (clock CLOCK) (sent SENT) (log`
+fn put_head(buffer: &mut [u8], at: usize, lane: u8, clock: u16, sent: u8) -> usize
+    ensures { λ r. ⌜ out (now (buffer .exit)) r ≡ wrote (out (now (buffer .entry)) at) (headOf lane clock sent) ⌝ }
+{
+    let a = put_labelled(buffer, at, b"(post ", lane as u16);
+    let a = put_labelled(buffer, a, b" (clock ", clock);
+    let a = put_labelled(buffer, a, b") (sent ", sent as u16);
+    put_text(buffer, a, b") (log")
+}
+
+// The first n items of a log, or all that there are.
+fn put_items<'a>(
+    buffer: &mut [u8],
+    at: usize,
+    n: usize,
+    log: &'a [u8],
+    stamps: &'a [u16; 128],
+    words: &'a [u16; 128],
+) -> usize
+    ensures { λ r. ⌜ out (now (buffer .exit)) r ≡ wrote (out (now (buffer .entry)) at) (itemsOf (now (stamps .entry)) (now (words .entry)) (take n (now (log .entry)))) ⌝ }
+{
+    let mut a = at;
+    let mut k = 0usize;
+    while (k < n) & (k < log.len()) {
+        a = put_item(buffer, a, log[k], stamps, words);
+        k += 1;
+    }
+    a
+}
+
+// ` (STAMP LANE WORD)` of the order kept at a place.
+fn put_item(
+    buffer: &mut [u8],
+    at: usize,
+    place: u8,
+    stamps: &[u16; 128],
+    words: &[u16; 128],
+) -> usize
+    ensures { λ r. ⌜ out (now (buffer .exit)) r ≡ wrote (out (now (buffer .entry)) at) (itemOf (now (stamps .entry)) (now (words .entry)) place) ⌝ }
+{
+    let stamp = cells::stamp_at(stamps, place as usize);
+    let lane = (place / 16) as u16;
+    let word = cells::word_at(words, place as usize);
+    let a = put_labelled(buffer, at, b" (", stamp.0);
+    let a = put_labelled(buffer, a, b" ", lane);
+    let a = put_labelled(buffer, a, b" ", word);
+    put_text(buffer, a, b")")
+}

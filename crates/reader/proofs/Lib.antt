@@ -1,0 +1,4 @@
+pub mod ScanningLaws
+pub mod Progress
+pub mod FormsLaws
+pub mod LinesLaws

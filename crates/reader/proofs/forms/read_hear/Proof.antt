@@ -1,0 +1,9 @@
+use borrow.Author.Needs.{needs}
+use Rattle.reader.proofs.forms.read_hear.Statement.{statement}
+use Rattle.reader.proofs.forms.read_hear.Tie as tie
+
+returns : tie.Need-returns
+returns c = cc
+
+pub read-hear-spec : {M : Type 1} → statement M
+read-hear-spec = tie.close (tie.spec (λ c. search needs) (λ c κs. tt) (λ c κs. tt) (λ c κs. tt) (λ c. search needs) (λ c κs. tt) (λ c κs. tt) (λ c. search needs) (λ c κs. tt) returns)

@@ -1,0 +1,110 @@
+// Reads a script line by line, and judges it by refusals 1 to 5. The contracts cite the definitions of the crate `lines`:
+// Lines.antt, and for the private parts Scan.antt and Forms.antt besides.
+mod forms;
+mod line_forms;
+mod scanning;
+
+use lines::Judged;
+use lines::Line;
+ghost use mathlib.Core.Path.{_≡_};
+ghost use Prim.Native.Nat.{_≤_};
+ghost use lib.ListN.{length};
+ghost use Rattle.lines.specs.Lines.{lineAt, numberOf, nextOf, linesOf, judgedLines, judged};
+
+// The line that begins at a place.
+pub fn read_line(s: &[u8], at: usize) -> Line
+    ensures { λ r. ⌜ r ≡ lineAt (now (s .entry)) at ⌝ }
+{
+    let c = forms::read_order(s, at);
+    if c.ok {
+        line_forms::order_line(at, c)
+    } else {
+        line_forms::hear_or(s, at)
+    }
+}
+
+// The number that a line is refused by, or 0.
+pub fn number_of(l: Line) -> u8
+    ensures { λ r. ⌜ r ≡ numberOf l ⌝ }
+{
+    match l {
+        Line::Yard {
+            posts: _,
+            sources: _,
+            dests: _,
+            next: _,
+        } => 0,
+        Line::Order {
+            lane: _,
+            word: _,
+            next: _,
+        } => 0,
+        Line::Hear {
+            lane: _,
+            frame: _,
+            next: _,
+        } => 0,
+        Line::Beacon { lane: _, next: _ } => 0,
+        Line::Roll { next: _ } => 0,
+        Line::Refused(number) => number,
+    }
+}
+
+// The place of the line after a line; nothing is read after a refused one.
+pub fn next_of(s: &[u8], l: Line) -> usize
+    ensures { λ r. ⌜ r ≡ nextOf (now (s .entry)) l ⌝ }
+{
+    match l {
+        Line::Yard {
+            posts: _,
+            sources: _,
+            dests: _,
+            next,
+        } => next,
+        Line::Order {
+            lane: _,
+            word: _,
+            next,
+        } => next,
+        Line::Hear {
+            lane: _,
+            frame: _,
+            next,
+        } => next,
+        Line::Beacon { lane: _, next } => next,
+        Line::Roll { next } => next,
+        Line::Refused(_) => s.len(),
+    }
+}
+
+// Refusals 1 to 5, by the first refused line.
+pub fn judge(s: &[u8]) -> Judged
+    ensures { λ r. ⌜ r ≡ judged (now (s .entry)) ⌝ }
+{
+    if s.len() > lines::LONGEST {
+        return Judged { line: 0, number: 1 };
+    }
+    if s.len() == 0 {
+        return Judged { line: 1, number: 3 };
+    }
+    judge_lines(s)
+}
+
+fn judge_lines(s: &[u8]) -> Judged
+    requires { ⌜ length (now s) ≤ 48000 ⌝ }
+    ensures { λ r. ⌜ r ≡ judgedLines 0 (linesOf (now (s .entry))) ⌝ }
+{
+    let mut at = 0usize;
+    let mut line = 0u16;
+    let mut number = 0u8;
+    while at < s.len() {
+        let l = read_line(s, at);
+        number = number_of(l);
+        at = next_of(s, l);
+        line = line + 1;
+    }
+    Judged {
+        line: line,
+        number: number,
+    }
+}

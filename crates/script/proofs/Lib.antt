@@ -1,0 +1,3 @@
+pub mod StepWays
+pub mod LineLaws
+pub mod ScriptWays

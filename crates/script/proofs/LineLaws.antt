@@ -1,0 +1,91 @@
+-- The lines that are left to run at a place, and what is left to print. Assumes nothing.
+use mathlib.Core.Path.{_≡_, refl, sym, ap, _∙_}
+use mathlib.Core.Bool.{Bool, true, false, cond, not}
+use mathlib.Core.List.{List, [], _∷_}
+use Prim.Native.Nat.{ℕ, zero, suc, _+_, _<_, _≤_}
+use native.Mathlib.Omega.{arith}
+use lib.Dec.{ltb, eqb}
+use lib.ListN.{length}
+use borrow.Author.Tests.{ltb-true, lt-ltb, le-ltb}
+use Rattle.text.specs.Decimal.{given}
+use Rattle.text.specs.Writing.{Out, wrote}
+use Rattle.text.proofs.Laws.{wrote-append}
+use Rattle.lines.specs.declared.Line.{Line}
+use Rattle.lines.specs.Lines.{lineAt, nextOf, linesFrom}
+use Rattle.reader.proofs.Progress.{next-above}
+use Rattle.yard.specs.declared.Yard.{Yard}
+use Rattle.yard.specs.Worlds.{World}
+use Rattle.roll.specs.Runs.{run}
+use Rattle.meaning.specs.Texts.{refusedText}
+use Rattle.meaning.specs.Script.{stepOf, refusalOf, worldAfter, refusedLines}
+use Rattle.script.specs.declared.Stepped.{Stepped}
+use Rattle.script.specs.Lines.{world, lineStep, rest}
+
+-- the line at a place
+lines-one : (s : List ℕ) (at n : ℕ) → at < length s → linesFrom s at (suc n) ≡ lineAt s at ∷ linesFrom s (nextOf s (lineAt s at)) n
+unfolding linesFrom
+lines-one s at n h = rw (lt-ltb at (length s) h)
+
+-- at the end there is none
+lines-none : (s : List ℕ) (at n : ℕ) → length s ≤ at → linesFrom s at n ≡ []
+unfolding linesFrom
+lines-none s at zero h = refl
+lines-none s at (suc n) h = rw (le-ltb at (length s) h)
+
+-- the lines from the place `at` on lead to the same end as all lines from the place `from` on; the text so far is in o
+abbrev pub Left : List ℕ → World → ℕ → Out → World → ℕ → ℕ → Out → Type 0
+Left s w₀ from o₀ w at line o =
+    (worldAfter w (rest s at) ≡ worldAfter w₀ (rest s from))
+    × (wrote o (refusedLines w line (rest s at)) ≡ wrote o₀ (refusedLines w₀ 1 (rest s from)))
+
+-- at the script's end nothing is left
+pub none-left : (s : List ℕ) (w₀ : World) (from : ℕ) (o₀ : Out) (w : World) (at line : ℕ) (o : Out)
+    → length s ≤ at → Left s w₀ from o₀ w at line o
+    → (w ≡ worldAfter w₀ (rest s from)) × (o ≡ wrote o₀ (refusedLines w₀ 1 (rest s from)))
+unfolding worldAfter refusedLines wrote
+none-left s w₀ from o₀ w at line o h left = rw (lines-none s at (length s) h) at left
+
+-- the first line's step run, and its refusal printed
+world-one : (w : World) (l : Line) (ls : List Line) → worldAfter w (l ∷ ls) ≡ worldAfter (run w (stepOf l)) ls
+unfolding worldAfter
+world-one w l ls = refl
+
+refused-one : (o : Out) (w : World) (line : ℕ) (l : Line) (ls : List Line)
+    → wrote o (refusedLines w line (l ∷ ls))
+    ≡ wrote (wrote o (given (not (eqb (refusalOf w (stepOf l)) 0)) (refusedText (line + 1) (refusalOf w (stepOf l)))))
+    (refusedLines (run w (stepOf l)) (line + 1) ls)
+unfolding refusedLines
+refused-one o w line l ls = sym (wrote-append o _ _)
+
+-- a bound that is at least the number of bytes left gives the same lines as one more
+steady : (s : List ℕ) (n at : ℕ) → length s ≤ at + n → linesFrom s at (suc n) ≡ linesFrom s at n
+unfolding linesFrom
+steady s zero at low = rw (le-ltb at (length s) (omega arith))
+steady s (suc n) at low = go (ltb at (length s)) refl (λ (h : at < length s). steady s n (nextOf s (lineAt s at)) (omega (arith, next-above s at h)))
+  where
+    go : (b : Bool) → ltb at (length s) ≡ b
+        → (at < length s → linesFrom s (nextOf s (lineAt s at)) (suc n) ≡ linesFrom s (nextOf s (lineAt s at)) n)
+        → cond b (lineAt s at ∷ linesFrom s (nextOf s (lineAt s at)) (suc n)) [] ≡ cond b (lineAt s at ∷ linesFrom s (nextOf s (lineAt s at)) n) []
+    go true e more = ap (λ (ls : List Line). lineAt s at ∷ ls) (more (ltb-true at (length s) e))
+    go false e more = refl
+
+-- the line at a place, and the lines after it
+rest-more : (s : List ℕ) (at : ℕ) → at < length s → rest s at ≡ lineAt s at ∷ rest s (nextOf s (lineAt s at))
+rest-more s at h = go (length s) refl
+  where
+    go : (n : ℕ) → length s ≡ n → linesFrom s at n ≡ lineAt s at ∷ linesFrom s (nextOf s (lineAt s at)) n
+    go zero e = absurd (omega arith)
+    go (suc n) e =
+        lines-one s at n h
+        ∙ ap (λ (ls : List Line). lineAt s at ∷ ls) (sym (steady s n (nextOf s (lineAt s at)) (omega (arith, next-above s at h))))
+
+-- one line more
+pub left-more : (s : List ℕ) (w₀ : World) (from : ℕ) (o₀ : Out) (y : Yard) (air exit : List ℕ) (at line next : ℕ) (o p : Out) (l : Line)
+    (d : Stepped) → at < length s → l ≡ lineAt s at → d ≡ lineStep (world y air) l → exit ≡ run (world y air) (stepOf l) .air
+    → p ≡ wrote o (given (not (eqb (d .number) 0)) (refusedText (line + 1) (d .number))) → next ≡ nextOf s l
+    → Left s w₀ from o₀ (world y air) at line o → Left s w₀ from o₀ (world (d .yard) exit) next (line + 1) p
+left-more s w₀ from o₀ y air exit at line next o p l d h el ed ex ep en left =
+    let lines = rest-more s at h in
+    let world-left = sym (world-one (world y air) (lineAt s at) _) ∙ rw lines at (left .0) in
+    let text-left = sym (refused-one o (world y air) line (lineAt s at) _) ∙ rw lines at (left .1) in
+    rw (ep, ex, en, ed, el) (world-left, text-left)

@@ -1,0 +1,3 @@
+pub mod ScriptTable
+pub mod BadScriptTable
+pub mod Joint

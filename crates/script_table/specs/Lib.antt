@@ -1,0 +1,3 @@
+pub mod ScriptCases
+pub mod BadScriptCases
+pub mod Joint

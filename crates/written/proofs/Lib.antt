@@ -1,0 +1,14 @@
+pub mod Here
+pub mod Decimal
+pub mod Number
+pub mod Forms
+pub mod Steps
+pub mod Sound
+pub mod Sets
+pub mod Posts
+pub mod Texts
+pub mod PostsSound
+pub mod PostsComplete
+pub mod Yard
+pub mod Lengths
+pub mod Theorem

@@ -8,3 +8,5 @@
 
 pub mod frame;
 pub mod post;
+pub mod script;
+pub mod yard;

@@ -57,7 +57,7 @@ impl Post {
     }
 
     /// Refusal 21.
-    pub(super) fn judge_membership(&self) -> Result<(), u8> {
+    pub(crate) fn judge_membership(&self) -> Result<(), u8> {
         if holds(self.posts, self.lane) {
             Ok(())
         } else {
@@ -66,7 +66,7 @@ impl Post {
     }
 
     /// Refusals 21 to 24 of an order; the record is good.
-    pub(super) fn judge_order(&self) -> Result<(), u8> {
+    pub(crate) fn judge_order(&self) -> Result<(), u8> {
         self.judge_membership()?;
         if !self.is_source() {
             return Err(NO_SOURCE);
@@ -81,7 +81,7 @@ impl Post {
     }
 
     /// Refusals 21, 24, 26 and 28 to 30 of a hearing; record and frame are good.
-    pub(super) fn judge_hearing(&self, frame: &Frame) -> Result<(), u8> {
+    pub(crate) fn judge_hearing(&self, frame: &Frame) -> Result<(), u8> {
         self.judge_membership()?;
         let to_be_taken = self.is_to_be_taken(frame);
         if to_be_taken && self.is_source() && self.clock.max(frame.stamp) == LAST_STAMP {

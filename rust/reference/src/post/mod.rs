@@ -1,4 +1,4 @@
-//! The post run singly: document 01, "Posts, stamps, serials", "The four steps",
+//! The post: document 01, "Posts, stamps, serials", "The four steps",
 //! and refusals 12 and 21 to 30.
 
 mod deliver;
@@ -6,6 +6,7 @@ mod judge;
 mod record;
 mod steps;
 
+pub(crate) use record::{holds, order_place};
 pub use record::{Post, LAST_STAMP, ORDERS, TABLE_LENGTH};
 pub use steps::{HearAnswer, OrderAnswer};
 

@@ -54,16 +54,21 @@ impl Post {
 
     /// A post before its first step, or refusal 12 or 21.
     pub fn fresh(lane: u8, posts: u8, sources: u8, dests: u8) -> Result<Post, u8> {
-        let post = Post {
+        let post = Post::new(lane, posts, sources, dests);
+        post.judge()?;
+        post.judge_membership()?;
+        Ok(post)
+    }
+
+    /// The fresh record of any lane, not judged.
+    pub(crate) fn new(lane: u8, posts: u8, sources: u8, dests: u8) -> Post {
+        Post {
             lane,
             posts,
             sources,
             dests,
             ..Post::EMPTY
-        };
-        post.judge()?;
-        post.judge_membership()?;
-        Ok(post)
+        }
     }
 
     pub(super) fn is_source(&self) -> bool {
@@ -100,6 +105,16 @@ impl Post {
         self.last[usize::from(lane)] = serial.0;
     }
 
+    /// Stamp, lane and word of the orders in the log, in the order of delivery.
+    pub(crate) fn logged_orders(&self) -> impl Iterator<Item = (Stamp, u8, u16)> + '_ {
+        let log = &self.log[..usize::from(self.logged)];
+        log.iter().map(|&place| {
+            let lane = place / LAST_SERIAL.0;
+            let place = usize::from(place);
+            (Stamp(self.stamps[place]), lane, self.words[place])
+        })
+    }
+
     /// For each lane its entry with the highest stamp, of equals the higher serial.
     pub(super) fn newest_entries(&self) -> [Entry; LANES] {
         let mut newest = [Entry::NONE; LANES];
@@ -133,7 +148,7 @@ impl Post {
 }
 
 /// Whether the lane, 0 to 7, is in the set.
-pub(super) fn holds(set: u8, lane: u8) -> bool {
+pub(crate) fn holds(set: u8, lane: u8) -> bool {
     set >> lane & 1 == 1
 }
 
@@ -143,6 +158,6 @@ fn table_place(lane: u8, serial: Serial) -> usize {
 }
 
 /// Place of a lane's order with a serial, 1 to 16.
-fn order_place(lane: u8, serial: Serial) -> usize {
+pub(crate) fn order_place(lane: u8, serial: Serial) -> usize {
     ORDERS_PER_LANE * usize::from(lane) + usize::from(serial.0) - 1
 }

@@ -8,11 +8,11 @@ use Rattle.frame.specs.Layout.{Fits, AreBytes, noEntry, entriesOf, frame
 use Rattle.frame.specs.declared.Frame.{Frame}
 
 -- a list is the list of its elements
-tabulate : {A : Type 0} → ℕ → (ℕ → A) → List A
+unfoldable pub tabulate : {A : Type 0} → ℕ → (ℕ → A) → List A
 tabulate zero f = []
 tabulate (suc n) f = f zero ∷ tabulate n (λ i. f (suc i))
 
-tabulated : {A : Type 0} (d : A) (l : List A) (n : ℕ) → length l ≡ n → tabulate n (λ i. getD l i d) ≡ l
+pub tabulated : {A : Type 0} (d : A) (l : List A) (n : ℕ) → length l ≡ n → tabulate n (λ i. getD l i d) ≡ l
 unfolding tabulate
 tabulated d [] zero e = refl
 tabulated d [] (suc n) e = absurd (omega arith)

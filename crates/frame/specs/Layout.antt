@@ -36,6 +36,18 @@ frameOf bytes = record {
   entries = entriesOf bytes;
 }
 
+-- the fields before the entries, alone
+abbrev pub startOf : ℕ → ℕ → ℕ → ℕ → ℕ → ℕ → Frame
+startOf kind sender lane serial stamp word = record {
+  kind = kind;
+  sender = sender;
+  lane = lane;
+  serial = record { 0 = serial };
+  stamp = record { 0 = stamp };
+  word = word;
+  entries = [];
+}
+
 -- "all zero is none"
 abbrev pub noEntry : Entry
 noEntry = record { serial = record { 0 = 0 }; stamp = record { 0 = 0 } }

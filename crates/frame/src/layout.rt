@@ -6,7 +6,7 @@ use crate::Stamp;
 ghost use mathlib.Core.Path.{_≡_};
 ghost use Prim.Native.Nat.{_+_, _*_, _<_};
 ghost use lib.ListN.{length};
-ghost use Rattle.frame.specs.Layout.{pairAt, entryAt, entriesOf, frameOf, joined, fieldBytes};
+ghost use Rattle.frame.specs.Layout.{pairAt, entryAt, entriesOf, frameOf, bytesOf};
 
 // The frame that 32 bytes lay out.
 pub(crate) fn frame_of(bytes: &[u8]) -> Frame
@@ -25,45 +25,28 @@ pub(crate) fn frame_of(bytes: &[u8]) -> Frame
     }
 }
 
-// The 32 bytes that a frame lays out.
-pub(crate) fn bytes_of(f: Frame) -> [u8; 32]
-    ensures { λ r. ⌜ r ≡ joined (fieldBytes f) ⌝ }
+// Puts the bytes that a frame lays out into a buffer of 32.
+pub(crate) fn put(f: Frame, buffer: &mut [u8])
+    requires { ⌜ length (now buffer) ≡ 32 ⌝ }
+    ensures { λ _. ⌜ now (buffer .exit) ≡ bytesOf f ⌝ }
 {
-    let e = f.entries;
-    [
-        f.kind,
-        f.sender,
-        f.lane,
-        f.serial.0,
-        (f.stamp.0 / 256 % 256) as u8,
-        (f.stamp.0 % 256) as u8,
-        (f.word / 256 % 256) as u8,
-        (f.word % 256) as u8,
-        e[0].serial.0,
-        (e[0].stamp.0 / 256 % 256) as u8,
-        (e[0].stamp.0 % 256) as u8,
-        e[1].serial.0,
-        (e[1].stamp.0 / 256 % 256) as u8,
-        (e[1].stamp.0 % 256) as u8,
-        e[2].serial.0,
-        (e[2].stamp.0 / 256 % 256) as u8,
-        (e[2].stamp.0 % 256) as u8,
-        e[3].serial.0,
-        (e[3].stamp.0 / 256 % 256) as u8,
-        (e[3].stamp.0 % 256) as u8,
-        e[4].serial.0,
-        (e[4].stamp.0 / 256 % 256) as u8,
-        (e[4].stamp.0 % 256) as u8,
-        e[5].serial.0,
-        (e[5].stamp.0 / 256 % 256) as u8,
-        (e[5].stamp.0 % 256) as u8,
-        e[6].serial.0,
-        (e[6].stamp.0 / 256 % 256) as u8,
-        (e[6].stamp.0 % 256) as u8,
-        e[7].serial.0,
-        (e[7].stamp.0 / 256 % 256) as u8,
-        (e[7].stamp.0 % 256) as u8,
-    ]
+    buffer[0] = f.kind;
+    buffer[1] = f.sender;
+    buffer[2] = f.lane;
+    buffer[3] = f.serial.0;
+    buffer[4] = (f.stamp.0 / 256 % 256) as u8;
+    buffer[5] = (f.stamp.0 % 256) as u8;
+    buffer[6] = (f.word / 256 % 256) as u8;
+    buffer[7] = (f.word % 256) as u8;
+    let mut lane = 0;
+    while lane < Frame::LANES {
+        let entry = f.entries[lane];
+        let place = 8 + 3 * lane;
+        buffer[place] = entry.serial.0;
+        buffer[place + 1] = (entry.stamp.0 / 256 % 256) as u8;
+        buffer[place + 2] = (entry.stamp.0 % 256) as u8;
+        lane += 1;
+    }
 }
 
 fn pair(high: u8, low: u8) -> u16
@@ -72,14 +55,14 @@ fn pair(high: u8, low: u8) -> u16
     256 * (high as u16) + (low as u16)
 }
 
-fn pair_at(bytes: &[u8], i: usize) -> u16
+pub(crate) fn pair_at(bytes: &[u8], i: usize) -> u16
     requires { ⌜ i + 1 < length (now bytes) ⌝ }
     ensures { λ r. ⌜ r ≡ pairAt (now (bytes .entry)) i ⌝ }
 {
     pair(bytes[i], bytes[i + 1])
 }
 
-fn entry_at(bytes: &[u8], i: usize) -> Entry
+pub(crate) fn entry_at(bytes: &[u8], i: usize) -> Entry
     requires { ⌜ i + 2 < length (now bytes) ⌝ }
     ensures { λ r. ⌜ r ≡ entryAt (now (bytes .entry)) i ⌝ }
 {

@@ -1,5 +1,6 @@
 // The frame of document 01, "Frames and the air": 32 bytes, big-endian, judged by 6 to 11, read and written.
-// The contracts cite specs/Layout.antt, specs/Refusals.antt and specs/ReadWrite.antt.
+// The contracts cite specs/Layout.antt, specs/Refusals.antt, specs/ReadWrite.antt and specs/Fields.antt.
+mod fields;
 mod layout;
 mod refusals;
 
@@ -7,6 +8,7 @@ ghost use mathlib.Core.Path.{_≡_};
 ghost use Rattle.frame.specs.Layout.{bytesOf};
 ghost use Rattle.frame.specs.Refusals.{frameRefusal, readRefusal, writeRefusal};
 ghost use Rattle.frame.specs.ReadWrite.{noFrame, refusedRead, readOf, written};
+ghost use Rattle.frame.specs.Fields.{fieldsReadRefusal, fieldsRead, fieldsWriteRefusal, fieldsWritten};
 
 // A count of one lane's own orders (a per-source sequence number), 1 to 16; entries also have 0.
 pub struct Serial(pub u8);
@@ -44,6 +46,8 @@ pub struct FrameRead {
 impl Frame {
     pub const LENGTH: usize = 32;
 
+    pub const FIELDS: usize = 22;
+
     pub const LANES: usize = 8;
 
     pub const LAST_LANE: u8 = 7;
@@ -76,16 +80,13 @@ impl Frame {
         ensures { λ r. ⌜ r ≡ readOf (now (bytes .entry)) ⌝ }
         ensures writes_back { λ r. ⌜ (r .refusal ≡ 0 → bytesOf (r .frame) ≡ now (bytes .entry)) ⌝ }
     {
-        if bytes.len() != Frame::LENGTH {
-            return refused(6);
-        }
-        let frame = layout::frame_of(bytes);
-        let number = frame.refusal();
+        let number = drift_frame_check(bytes);
         if number != 0 {
             return refused(number);
         }
+        let frame = layout::frame_of(bytes);
         FrameRead {
-            refusal: number,
+            refusal: 0,
             frame: frame,
         }
     }
@@ -103,8 +104,7 @@ impl Frame {
         if refusal != 0 {
             return refusal;
         }
-        let frame = layout::bytes_of(self);
-        bytes::copy(&frame, buffer);
+        layout::put(self, buffer);
         0
     }
 
@@ -112,17 +112,16 @@ impl Frame {
     pub fn refusal(self) -> u8
         ensures { λ r. ⌜ r ≡ frameRefusal self ⌝ }
     {
-        if refusals::bad_kind(self) {
-            return 7;
-        }
-        if refusals::bad_beacon(self) {
-            return 8;
-        }
-        if refusals::bad_order(self) {
-            return 9;
-        }
-        if refusals::bad_sender(self) {
-            return 10;
+        let number = refusals::of_start(
+            self.kind,
+            self.sender,
+            self.lane,
+            self.serial.0,
+            self.stamp.0,
+            self.word,
+        );
+        if number != 0 {
+            return number;
         }
         if refusals::bad_entries(self) {
             return 11;
@@ -136,8 +135,51 @@ impl Frame {
 pub extern "C" fn drift_frame_check(bytes: &[u8]) -> u8
     ensures { λ r. ⌜ r ≡ readRefusal (now (bytes .entry)) ⌝ }
 {
-    let got = Frame::read(bytes);
-    got.refusal
+    if bytes.len() != Frame::LENGTH {
+        return 6;
+    }
+    let kind = bytes[0];
+    let stamp = layout::pair_at(bytes, 4);
+    let word = layout::pair_at(bytes, 6);
+    let start = refusals::of_start(kind, bytes[1], bytes[2], bytes[3], stamp, word);
+    if start != 0 {
+        return start;
+    }
+    if refusals::bad_entries_in(bytes) {
+        return 11;
+    }
+    0
+}
+
+// Puts a received frame's 22 fields into the lent numbers: 0, or the refusal 6 to 11 with the numbers as they were.
+#[no_mangle]
+pub extern "C" fn drift_frame_read(bytes: &[u8], fields: &mut [u16]) -> u8
+    ensures number { λ r. ⌜ r ≡ fieldsReadRefusal (now (bytes .entry)) (now (fields .entry)) ⌝ }
+    ensures fields { λ _. ⌜ now (fields .exit) ≡ fieldsRead (now (bytes .entry)) (now (fields .entry)) ⌝ }
+{
+    if fields.len() != Frame::FIELDS {
+        return 6;
+    }
+    let answer = drift_frame_check(bytes);
+    if answer != 0 {
+        return answer;
+    }
+    let frame = layout::frame_of(bytes);
+    fields::put(frame, fields);
+    0
+}
+
+// Puts the bytes of the frame that 22 fields make into a buffer of 32: 0, or the refusal 6 to 11 with the buffer as it was.
+#[no_mangle]
+pub extern "C" fn drift_frame_write(fields: &[u16], buffer: &mut [u8]) -> u8
+    ensures number { λ r. ⌜ r ≡ fieldsWriteRefusal (now (fields .entry)) (now (buffer .entry)) ⌝ }
+    ensures bytes { λ _. ⌜ now (buffer .exit) ≡ fieldsWritten (now (fields .entry)) (now (buffer .entry)) ⌝ }
+{
+    if fields.len() != Frame::FIELDS {
+        return 6;
+    }
+    let frame = fields::frame_from(fields);
+    frame.write(buffer)
 }
 
 fn refused(number: u8) -> FrameRead

@@ -1,53 +1,67 @@
-// The refusals 7 to 11, one function for each.
+// The refusals 7 to 11: of the fields before the entries, and of the entries in a frame or in its bytes.
 use crate::Entry;
 use crate::Frame;
 use crate::Serial;
+use crate::layout;
 ghost use mathlib.Core.Path.{_≡_};
-ghost use Rattle.frame.specs.Refusals.{badKind, badBeacon, badOrder, badSender, badEntry, badEntries};
+ghost use lib.ListN.{length};
+ghost use Rattle.frame.specs.Layout.{startOf, frameOf};
+ghost use Rattle.frame.specs.Refusals.{badEntry, badEntries, startRefusal};
 
-pub(crate) fn bad_kind(f: Frame) -> bool
-    ensures { λ r. ⌜ r ≡ badKind f ⌝ }
+// The lowest of 7 to 10 that the fields before the entries meet, or 0.
+pub(crate) fn of_start(kind: u8, sender: u8, lane: u8, serial: u8, stamp: u16, word: u16) -> u8
+    ensures { λ r. ⌜ r ≡ startRefusal (startOf kind sender lane serial stamp word) ⌝ }
 {
-    (f.kind != Frame::ORDER) & (f.kind != Frame::BEACON)
+    if (kind != Frame::ORDER) & (kind != Frame::BEACON) {
+        return 7;
+    }
+    if (kind == Frame::BEACON) & ((lane != 0) | (serial != 0) | (stamp != 0) | (word != 0)) {
+        return 8;
+    }
+    if (kind == Frame::ORDER)
+        & ((lane > Frame::LAST_LANE) | (serial == 0) | (serial > Serial::LAST) | (stamp == 0))
+    {
+        return 9;
+    }
+    if sender > Frame::LAST_LANE {
+        return 10;
+    }
+    0
 }
 
-pub(crate) fn bad_beacon(f: Frame) -> bool
-    ensures { λ r. ⌜ r ≡ badBeacon f ⌝ }
-{
-    (f.kind == Frame::BEACON)
-        & ((f.lane != 0) | (f.serial.0 != 0) | (f.stamp.0 != 0) | (f.word != 0))
-}
-
-pub(crate) fn bad_order(f: Frame) -> bool
-    ensures { λ r. ⌜ r ≡ badOrder f ⌝ }
-{
-    (f.kind == Frame::ORDER)
-        & ((f.lane > Frame::LAST_LANE)
-            | (f.serial.0 == 0)
-            | (f.serial.0 > Serial::LAST)
-            | (f.stamp.0 == 0))
-}
-
-pub(crate) fn bad_sender(f: Frame) -> bool
-    ensures { λ r. ⌜ r ≡ badSender f ⌝ }
-{
-    f.sender > Frame::LAST_LANE
-}
-
+// An entry's serial is at most 16, and at most 0 where its stamp is 0.
 fn bad_entry(e: Entry) -> bool
     ensures { λ r. ⌜ r ≡ badEntry e ⌝ }
 {
-    (e.serial.0 > Serial::LAST) | ((e.stamp.0 == 0) & (e.serial.0 != 0))
+    let most = if e.stamp.0 == 0 { 0 } else { Serial::LAST };
+    e.serial.0 > most
 }
 
+// Whether refusal 11 meets an entry of a frame.
 pub(crate) fn bad_entries(f: Frame) -> bool
     ensures { λ r. ⌜ r ≡ badEntries f ⌝ }
 {
-    let mut bad = false;
     let mut lane = 0;
     while lane < Frame::LANES {
-        bad = bad | bad_entry(f.entries[lane]);
+        if bad_entry(f.entries[lane]) {
+            return true;
+        }
         lane += 1;
     }
-    bad
+    false
+}
+
+// The same of the frame that 32 bytes lay out, judged where they lie.
+pub(crate) fn bad_entries_in(bytes: &[u8]) -> bool
+    requires { ⌜ length (now bytes) ≡ 32 ⌝ }
+    ensures { λ r. ⌜ r ≡ badEntries (frameOf (now (bytes .entry))) ⌝ }
+{
+    let mut lane = 0;
+    while lane < Frame::LANES {
+        if bad_entry(layout::entry_at(bytes, 8 + 3 * lane)) {
+            return true;
+        }
+        lane += 1;
+    }
+    false
 }

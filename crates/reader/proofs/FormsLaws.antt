@@ -6,8 +6,8 @@ use Prim.Native.Nat.{ℕ, zero, suc, _+_, _*_, _%_, _^_, _<_, _≤_}
 use native.Mathlib.Omega.{arith}
 use lib.ListN.{length}
 use Rattle.text.specs.Bytes.{bytes}
-use Rattle.lines.specs.Scan.{stands}
-use Rattle.lines.specs.Forms.{bitOf, readPost, withPost, postsRead}
+use Rattle.lines.specs.Scan.{stands, failed, readText}
+use Rattle.lines.specs.Forms.{asRole, orRole, bitOf, readPost, withPost, postsRead}
 use Rattle.lines.specs.declared.Scan.{Scan}
 use Rattle.lines.specs.declared.YardScan.{YardScan}
 use Rattle.lines.proofs.Laws.{both}
@@ -24,6 +24,17 @@ bit-law (suc (suc (suc (suc (suc zero))))) h = refl
 bit-law (suc (suc (suc (suc (suc (suc zero)))))) h = refl
 bit-law (suc (suc (suc (suc (suc (suc (suc zero))))))) h = refl
 bit-law (suc (suc (suc (suc (suc (suc (suc (suc i)))))))) h = absurd (omega arith)
+
+-- a role's name that was tried
+pub role-yes : (s name : List ℕ) (role : ℕ) (c r x : Scan) → r ≡ readText s name c → r .ok ≡ true → x ≡ asRole c role r
+    → x ≡ orRole s name role c (failed c)
+unfolding orRole
+role-yes s name role c r x e h q = rw (← e, h) q
+
+pub role-no : (s name : List ℕ) (role : ℕ) (c r x : Scan) → r ≡ readText s name c → r .ok ≡ false → x ≡ failed c
+    → x ≡ orRole s name role c (failed c)
+unfolding orRole
+role-no s name role c r x e h q = rw (← e, h) q
 
 -- What is left to read from z on is what there was from y on.
 abbrev pub PostsLeft : List ℕ → YardScan → YardScan → Type 0

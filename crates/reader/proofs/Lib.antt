@@ -1,4 +1,6 @@
 pub mod ScanningLaws
+pub mod NumberLaws
+pub mod LetterLaws
 pub mod Progress
 pub mod FormsLaws
 pub mod LinesLaws

@@ -1,15 +1,16 @@
 -- Laws of the lines and of their refusals 1 to 5. Assumes nothing.
 use mathlib.Core.Path.{_≡_, refl, ap, sym, _∙_}
-use mathlib.Core.Bool.{Bool, true, false, cond}
+use mathlib.Core.Bool.{Bool, true, false, cond, _&&_}
 use mathlib.Core.List.{List, _∷_}
 use mathlib.Core.Logic.{_⊎_, inl, inr}
 use Prim.Native.Nat.{ℕ, zero, suc, _+_, _<_, _≤_}
 use native.Mathlib.Omega.{arith}
 use lib.ListN.{length}
-use lib.Dec.{eqb}
+use lib.Dec.{ltb, eqb}
 use borrow.Author.Tests.{lt-ltb, le-ltb, eqb-true, eq-eqb, ne-eqb}
 use Rattle.lines.proofs.Laws.{never, step-right}
-use Rattle.lines.specs.Lines.{stepRefusal, lineAt, numberOf, nextOf, linesFrom, linesOf, judgedLines}
+use Rattle.lines.specs.Lines.{yardLine, stepRefusal, lineAt, numberOf, nextOf, linesFrom, linesOf, judgedLines}
+use Rattle.lines.specs.declared.YardScan.{YardScan}
 use Rattle.lines.specs.declared.Judged.{Judged}
 use Rattle.lines.specs.declared.Line.{Line}
 use Rattle.lines.specs.declared.Line.the-variants.{Yard, Order, Hear, Beacon, Roll, Refused}
@@ -39,6 +40,19 @@ or-yes ok f c d r other e h q = q ∙ ap f e ∙ cond-yes (ok d) (f d) other (ap
 
 pub or-no : {A : Type 0} (ok : A → Bool) (a r other : Line) (c d : A) → c ≡ d → ok c ≡ false → r ≡ other → r ≡ cond (ok d) a other
 or-no ok a r other c d e h q = q ∙ cond-no (ok d) a other (ap ok (sym e) ∙ h)
+
+-- a yard form on line 1, and on a later line
+pub yard-yes : (y : YardScan) → (y .rising && ltb 0 (y .posts)) ≡ true → Yard (y .posts) (y .sources) (y .dests) (y .at) ≡ yardLine 0 y
+unfolding yardLine
+yard-yes y h = rw h
+
+pub yard-no : (y : YardScan) → (y .rising && ltb 0 (y .posts)) ≡ false → Refused 3 ≡ yardLine 0 y
+unfolding yardLine
+yard-no y h = rw h
+
+pub yard-late : (at : ℕ) (y : YardScan) → 0 < at → Refused 3 ≡ yardLine at y
+unfolding yardLine
+yard-late at y h = rw (ne-eqb at 0 (λ e. omega arith))
 
 -- a refused line is the last that is read
 refused-last : (s : List ℕ) (l : Line) → eqb (numberOf l) 0 ≡ false → nextOf s l ≡ length s

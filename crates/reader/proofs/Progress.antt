@@ -1,6 +1,6 @@
 -- A line that is read ends further on, and not past the end of the text. Assumes nothing.
-use mathlib.Core.Path.{_≡_, refl}
-use mathlib.Core.Bool.{Bool, true, false, cond, _&&_}
+use mathlib.Core.Path.{_≡_}
+use mathlib.Core.Bool.{true, _&&_}
 use mathlib.Core.List.{List}
 use Prim.Native.Nat.{ℕ, zero, suc, _+_, _<_, _≤_}
 use native.Mathlib.Omega.{arith}
@@ -14,12 +14,7 @@ use Rattle.lines.specs.declared.Scan.{Scan}
 use Rattle.lines.specs.declared.YardScan.{YardScan}
 use Rattle.lines.specs.declared.Line.{Line}
 use Rattle.lines.proofs.Laws.{both, never}
-use Rattle.reader.proofs.ScanningLaws.{stands-in}
-
--- what holds of both ways holds of the way taken
-ways : {A : Type 0} (P : A → Type 0) (b : Bool) (x y : A) → (b ≡ true → P x) → P y → P (cond b x y)
-ways P true x y f g = f refl
-ways P false x y f g = g
+use Rattle.reader.proofs.ScanningLaws.{ways, stands-in}
 
 -- ---- nothing read moves back
 

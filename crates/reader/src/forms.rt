@@ -1,4 +1,5 @@
 // The forms of a script's lines: Forms.antt of the crate `lines`.
+use crate::scanning::byte_at;
 use crate::scanning::fail;
 use crate::scanning::pick;
 use crate::scanning::read_number;
@@ -8,10 +9,10 @@ use crate::scanning::start_at;
 use lines::Scan;
 use lines::YardScan;
 ghost use mathlib.Core.Path.{_≡_};
-ghost use mathlib.Core.Bool.{cond, _&&_};
+ghost use mathlib.Core.Bool.{_&&_};
 ghost use lib.ListN.{length};
 ghost use Rattle.text.specs.Bytes.{bytes};
-ghost use Rattle.lines.specs.Scan.{stands};
+ghost use Rattle.lines.specs.Scan.{stands, failed};
 ghost use Rattle.lines.specs.Forms.{orderForm, hearForm, beaconForm, rollForm, readForm, asRole, orRole, readRole, readPost, bitOf, withPost, postsRead, noPosts, scanOf, ended, yardPosts, readYard};
 
 // `(order LANE WORD)`
@@ -103,17 +104,25 @@ fn read_post(s: &[u8], at: usize) -> Scan
 fn read_role(s: &[u8], c: Scan) -> Scan
     ensures { λ r. ⌜ r ≡ readRole (now (s .entry)) c ⌝ }
 {
-    let n = or_role(s, b"relay", 0, c, fail(c));
-    let n = or_role(s, b"both", 3, c, n);
-    let n = or_role(s, b"dest", 2, c, n);
-    or_role(s, b"source", 1, c, n)
+    if !c.ok {
+        return c;
+    }
+    let letter = byte_at(s, c.at);
+    match letter {
+        b's' => named_role(s, b"source", 1, c),
+        b'd' => named_role(s, b"dest", 2, c),
+        b'b' => named_role(s, b"both", 3, c),
+        b'r' => named_role(s, b"relay", 0, c),
+        _ => fail(c),
+    }
 }
 
-fn or_role(s: &[u8], name: &[u8], role: u32, c: Scan, other: Scan) -> Scan
-    ensures { λ r. ⌜ r ≡ orRole (now (s .entry)) (now (name .entry)) role c other ⌝ }
+// The role of this name, and no other.
+fn named_role(s: &[u8], name: &[u8], role: u32, c: Scan) -> Scan
+    ensures { λ r. ⌜ r ≡ orRole (now (s .entry)) (now (name .entry)) role c (failed c) ⌝ }
 {
     let r = read_text(s, name, c);
-    pick_scan(r.ok, as_role(c, role, r), other)
+    if r.ok { as_role(c, role, r) } else { fail(c) }
 }
 
 fn as_role(c: Scan, role: u32, r: Scan) -> Scan
@@ -125,12 +134,6 @@ fn as_role(c: Scan, role: u32, r: Scan) -> Scan
         earlier: c.latest,
         latest: role,
     }
-}
-
-fn pick_scan(test: bool, yes: Scan, no: Scan) -> Scan
-    ensures { λ r. ⌜ r ≡ cond test yes no ⌝ }
-{
-    if test { yes } else { no }
 }
 
 // A lane's bit in a set of eight; none for a lane over 7.

@@ -11,15 +11,18 @@ ghost use Prim.Native.Nat.{_≤_};
 ghost use lib.ListN.{length};
 ghost use Rattle.lines.specs.Lines.{lineAt, numberOf, nextOf, linesOf, judgedLines, judged};
 
-// The line that begins at a place.
+// The line that begins at a place: the letter after its `(` says which form it can have.
 pub fn read_line(s: &[u8], at: usize) -> Line
     ensures { λ r. ⌜ r ≡ lineAt (now (s .entry)) at ⌝ }
 {
-    let c = forms::read_order(s, at);
-    if c.ok {
-        line_forms::order_line(at, c)
-    } else {
-        line_forms::hear_or(s, at)
+    let letter = scanning::byte_after(s, at);
+    match letter {
+        b'o' => line_forms::order_or_refused(s, at),
+        b'h' => line_forms::hear_or_refused(s, at),
+        b'b' => line_forms::beacon_or_refused(s, at),
+        b'r' => line_forms::roll_or_refused(s, at),
+        b'y' => line_forms::yard_or_refused(s, at),
+        _ => Line::Refused(2),
     }
 }
 

@@ -1,30 +1,38 @@
 // What stands in a text at a place, and numerals: Scan.antt of the crate `lines`.
 use lines::Scan;
 ghost use mathlib.Core.Path.{_≡_};
-ghost use mathlib.Core.Bool.{cond};
-ghost use Prim.Native.Nat.{_+_, _≤_};
+ghost use mathlib.Core.Bool.{true, cond, _&&_};
+ghost use Prim.Native.Nat.{_+_, _≤_, _<_};
+ghost use lib.Dec.{leb};
 ghost use lib.ListN.{length, getD};
-ghost use Rattle.lines.specs.Scan.{sameBytes, stands, digitAt, startAt, failed, readText, firstDigit, nextDigit, readNumber};
+ghost use Rattle.lines.specs.Scan.{sameBytes, stands, startAt, failed, readText, firstDigit, nextDigit, readNumber};
 
 // What stands at a place, and 0 past the end.
-fn byte_at(s: &[u8], at: usize) -> u8
+pub(crate) fn byte_at(s: &[u8], at: usize) -> u8
     ensures { λ r. ⌜ r ≡ getD (now (s .entry)) at 0 ⌝ }
 {
     if at < s.len() { s[at] } else { 0 }
+}
+
+// What stands after a place, and 0 past the end.
+pub(crate) fn byte_after(s: &[u8], at: usize) -> u8
+    ensures { λ r. ⌜ r ≡ getD (now (s .entry)) (at + 1) 0 ⌝ }
+{
+    if at < s.len() { byte_at(s, at + 1) } else { 0 }
 }
 
 fn same_bytes(s: &[u8], at: usize, t: &[u8]) -> bool
     requires { ⌜ at + length (now t) ≤ length (now s) ⌝ }
     ensures { λ r. ⌜ r ≡ sameBytes (now (s .entry)) at (now (t .entry)) ⌝ }
 {
-    let mut all = true;
     let mut i = 0;
     while i < t.len() {
-        let same = s[at + i] == t[i];
-        all = all & same;
+        if s[at + i] != t[i] {
+            return false;
+        }
         i += 1;
     }
-    all
+    true
 }
 
 // Whether a text stands at a place.
@@ -38,20 +46,6 @@ pub(crate) fn stands_at(s: &[u8], at: usize, t: &[u8]) -> bool
         return false;
     }
     same_bytes(s, at, t)
-}
-
-// The digit at a place, or 10 where there is none.
-fn digit_at(s: &[u8], at: usize) -> u32
-    ensures { λ r. ⌜ r ≡ digitAt (now (s .entry)) at ⌝ }
-{
-    let x = byte_at(s, at);
-    if x < 48 {
-        return 10;
-    }
-    if x > 57 {
-        return 10;
-    }
-    (x - 48) as u32
 }
 
 // A line is read from a place on.
@@ -81,8 +75,11 @@ pub(crate) fn fail(c: Scan) -> Scan
 pub(crate) fn read_text(s: &[u8], t: &[u8], c: Scan) -> Scan
     ensures { λ r. ⌜ r ≡ readText (now (s .entry)) (now (t .entry)) c ⌝ }
 {
+    if !c.ok {
+        return c;
+    }
     let here = stands_at(s, c.at, t);
-    if c.ok & here {
+    if here {
         Scan {
             ok: true,
             at: c.at + t.len(),
@@ -90,63 +87,70 @@ pub(crate) fn read_text(s: &[u8], t: &[u8], c: Scan) -> Scan
             latest: c.latest,
         }
     } else {
-        Scan {
-            ok: false,
-            at: c.at,
-            earlier: c.earlier,
-            latest: c.latest,
-        }
+        fail(c)
     }
+}
+
+// Whether a byte is a digit.
+fn is_digit(x: u32) -> bool
+    ensures { λ r. ⌜ r ≡ (leb 48 x && leb x 57) ⌝ }
+{
+    (48 <= x) & (x <= 57)
 }
 
 // A number comes next: its first digit.
 fn first_digit(s: &[u8], c: Scan) -> Scan
     ensures { λ r. ⌜ r ≡ firstDigit (now (s .entry)) c ⌝ }
 {
-    let d = digit_at(s, c.at);
-    if c.ok & (d < 10) {
+    if !c.ok {
+        return c;
+    }
+    let x = byte_at(s, c.at) as u32;
+    if is_digit(x) {
         Scan {
             ok: true,
             at: c.at + 1,
             earlier: c.latest,
-            latest: d,
+            latest: x - 48,
         }
     } else {
-        Scan {
-            ok: false,
-            at: c.at,
-            earlier: c.earlier,
-            latest: c.latest,
-        }
+        fail(c)
     }
 }
 
-// A digit more, if there is one: 0 has no digit more, and a number has no more than five.
-fn next_digit(s: &[u8], c: Scan) -> Scan
-    ensures { λ r. ⌜ r ≡ nextDigit (now (s .entry)) c ⌝ }
+// The digits after the first: no more than four.
+fn more_digits(s: &[u8], c: Scan) -> Scan
+    requires { ⌜ (c .ok ≡ true) × (0 < c .latest) × (c .latest < 10) ⌝ }
+    ensures { λ r. ⌜ r ≡ nextDigit (now (s .entry)) (nextDigit (now (s .entry)) (nextDigit (now (s .entry)) (nextDigit (now (s .entry)) c))) ⌝ }
 {
-    let d = digit_at(s, c.at);
-    if c.ok & (d < 10) & (0 < c.latest) & (c.latest < 10000) {
-        Scan {
-            ok: true,
-            at: c.at + 1,
-            earlier: c.earlier,
-            latest: 10 * c.latest + d,
-        }
-    } else {
-        c
+    let mut at = c.at;
+    let mut value = c.latest;
+    let mut left = 4u8;
+    let mut x = byte_at(s, at) as u32;
+    while (0 < left) & is_digit(x) {
+        at += 1;
+        value = 10 * value + (x - 48);
+        left -= 1;
+        x = byte_at(s, at) as u32;
+    }
+    Scan {
+        ok: true,
+        at: at,
+        earlier: c.earlier,
+        latest: value,
     }
 }
 
-// A number of one to five digits.
+// A number of one to five digits; one that starts with 0 has no digit more.
 pub(crate) fn read_number(s: &[u8], c: Scan) -> Scan
     ensures { λ r. ⌜ r ≡ readNumber (now (s .entry)) c ⌝ }
 {
     let n = first_digit(s, c);
-    let n = next_digit(s, n);
-    let n = next_digit(s, n);
-    let n = next_digit(s, n);
-    next_digit(s, n)
+    if n.ok & (0 < n.latest) {
+        more_digits(s, n)
+    } else {
+        n
+    }
 }
 
 // One of two numbers, by a test.

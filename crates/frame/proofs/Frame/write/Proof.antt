@@ -3,7 +3,7 @@ use native.Mathlib.Omega.{arith}
 use lib.ListN.{length-map}
 use mathlib.Core.Path.{_≡_, sym}
 use Rattle.frame.specs.Layout.{Fits}
-use Rattle.frame.proofs.Laws.{copied, write-short, write-refused, write-accepted}
+use Rattle.frame.proofs.Laws.{write-short, write-refused, write-accepted}
 use Rattle.frame.proofs.Theorems.{reads-back}
 use Rattle.frame.proofs.Values.{stamps-fit}
 use Rattle.frame.proofs.Frame.write.Statement.{statement}
@@ -20,7 +20,7 @@ returns-2 c =
 
 returns-3 : tie.Need-returns-3
 returns-3 c =
-    let start = c .before .before .before .before .before .before .before .before .before .before in
+    let start = c .before .before .before .before .before .before .before .before in
     let self = start .args .self in
     let buffer = start .args .buffer .now in
     let entries = start .good .0 .1 .1 .1 .1 .1 .1 .1 .1 .0 in
@@ -30,12 +30,9 @@ returns-3 c =
       count = simp length-map at (entries .1 .0 .1);
       stamps = stamps-fit (self .entries) (entries .0) (entries .1 .1);
     } in
-    let laid-out = c .before .before .before .before .before .bytes-of in
-    let judged = c .before .before .before .before .before .before .before .refusal in
-    let good : judged .result ≡ 0 = omega arith in
-    let exit = copied (laid-out .result) buffer _ (rw (laid-out .ensures)) (omega arith) (c .before .before .copy .ensures .1) in
-    let w = write-accepted buffer _ _ _ _ (omega arith) (judged .ensures) good (laid-out .ensures) exit in
+    let judged = c .before .before .before .before .before .refusal in
+    let w = write-accepted buffer _ _ _ (omega arith) (judged .ensures) (c .before .before .before .before .if2 .left) (c .before .before .put .ensures) in
     (w .0, (w .1, λ z. rw (w .1) (reads-back _ _ fits (sym (w .0)))))
 
 pub write-spec : {M : Type 1} → statement M
-write-spec = tie.close (tie.spec returns (λ c κs. search needs) returns-2 (λ c κs. search needs) (λ c. search needs) (λ c κs. search needs) (λ c. search needs) returns-3)
+write-spec = tie.close (tie.spec returns (λ c κs. search needs) returns-2 (λ c κs. search needs) (λ c. search needs) returns-3)

@@ -4,8 +4,10 @@
  *
  * For frames alone link with target/staticlib/libframe.a, which
  * `rt staticlib frame` makes; for scripts with target/staticlib/libscript.a,
- * which `rt staticlib script` makes. libframe.a calls no other library,
- * libscript.a only memcpy and memset, which every C compiler asks for.
+ * which `rt staticlib script` makes; for the state behind a script with
+ * target/staticlib/libstate.a, which `rt staticlib state` makes. libframe.a
+ * calls no other library, the others only memcpy and memset, which every C
+ * compiler asks for.
  */
 #ifndef DRIFT_H
 #define DRIFT_H
@@ -148,6 +150,36 @@ uint8_t drift_frame_write(const uint16_t *fields, size_t fields_length,
 size_t drift_run_script(const uint8_t *script, size_t script_length,
                         uint8_t *air, size_t air_length,
                         uint8_t *output, size_t output_length);
+
+/* Number of bytes of a state. */
+#define DRIFT_STATE_LENGTH 7692
+
+/*
+ * Runs a script as drift_run_script does, and writes the state that it leaves
+ * behind its printout: each post's record, the yard's own numbers, and the
+ * answer of the last line. Link with target/staticlib/libstate.a, which
+ * `rt staticlib state` makes.
+ *
+ * Returns DRIFT_STATE_LENGTH and fills the state; the air holds the broadcast
+ * frames, as after drift_run_script. Returns 0 if the script is refused (1 to
+ * 5) or state_length is not DRIFT_STATE_LENGTH; then air and state keep their
+ * bytes.
+ *
+ * A number of two bytes has the high byte first. At 928 x lane, for lanes 0 to
+ * 7, the record: lane, posts, sources, dests, clock (2), own serial, last taken
+ * (8), table (136 x 2), stamps (128 x 2), words (128 x 2), log (128), length of
+ * the log. At 7424 the number of frames (2), at 7426 of beacons (2), at 7428
+ * the number of each order's first frame (128 x 2). At 7684 the answer of the
+ * last line: its code (0 refused, 1 order sent, 2 taken, 3 again, 4 early,
+ * 5 beacon heard, 6 beacon sent, 7 no step yet, 8 roll call ran), the refusal's
+ * number, the count delivered, the order's serial, its stamp (2), the number of
+ * single steps of the roll call (2); 0 for each that the answer has not.
+ *
+ * For the pointers and the rest it is as drift_run_script.
+ */
+size_t drift_script_state(const uint8_t *script, size_t script_length,
+                          uint8_t *air, size_t air_length,
+                          uint8_t *state, size_t state_length);
 
 #ifdef __cplusplus
 }

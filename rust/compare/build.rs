@@ -1,4 +1,4 @@
-//! Finds the static library of the proved crates and has it linked.
+//! Finds the static libraries of the proved crates and has them linked.
 
 use std::env;
 use std::path::{Path, PathBuf};
@@ -6,22 +6,27 @@ use std::path::{Path, PathBuf};
 /// A folder that overrides the place where `rt staticlib` writes.
 const FOLDER_VARIABLE: &str = "DRIFT_STATICLIB";
 
+/// The crates whose functions are compared; each has a library of its own.
+const CRATES: [&str; 3] = ["frame", "script", "state"];
+
 fn main() {
     println!("cargo::rerun-if-changed=build.rs");
     println!("cargo::rerun-if-env-changed={FOLDER_VARIABLE}");
     let folder = library_folder();
-    let archive = folder.join("libframe.a");
-    println!("cargo::rerun-if-changed={}", archive.display());
-    if !archive.is_file() {
-        println!(
-            "cargo::error={} is missing: run `rt staticlib frame` in the repository root, \
-             or set {FOLDER_VARIABLE} to the folder that has libframe.a",
-            archive.display()
-        );
-        return;
-    }
     println!("cargo::rustc-link-search=native={}", folder.display());
-    println!("cargo::rustc-link-lib=static=frame");
+    for name in CRATES {
+        let archive = folder.join(format!("lib{name}.a"));
+        println!("cargo::rerun-if-changed={}", archive.display());
+        if archive.is_file() {
+            println!("cargo::rustc-link-lib=static={name}");
+        } else {
+            println!(
+                "cargo::error={} is missing: run `rt staticlib {name}` in the repository root, \
+                 or set {FOLDER_VARIABLE} to the folder that has lib{name}.a",
+                archive.display()
+            );
+        }
+    }
 }
 
 /// The folder as an absolute path; a relative one starts at this package.

@@ -32,7 +32,7 @@ fn hearing() -> Bytes {
 }
 
 /// Taken: clock 4, both orders logged, frame 4 in the buffer.
-fn heard() -> Bytes {
+pub fn heard() -> Bytes {
     let mut response = hearing();
     put(&mut response, 0, &[2, 0, 2, 0, 0, 0]);
     response[96..128].fill(0);

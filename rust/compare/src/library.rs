@@ -1,17 +1,125 @@
-//! The static library of the proved crates. Only this file has `unsafe`.
+//! The functions that are compared, and those of the static library of the
+//! proved crates. Only this file has `unsafe`.
 
 #![allow(unsafe_code)]
 
-extern "C" {
-    fn drift_frame_check(bytes: *const u8, length: usize) -> u8;
+/// Number of fields of a frame: kind, sender, lane, serial, stamp, word, then
+/// for lanes 0 to 7 serial and stamp.
+pub const FIELDS: usize = 22;
+
+/// The functions on frames and scripts, by the static library or by another.
+///
+/// What a function only reads is lent as changeable too, so that the compiler
+/// does not assume it unchanged: the caller compares it before and after.
+pub trait Library {
+    /// 0, or the refusal of reading these bytes.
+    fn frame_check(&self, bytes: &mut [u8]) -> u8;
+
+    /// Reads a frame into 22 fields: 0, or the refusal.
+    fn frame_read(&self, bytes: &mut [u8], fields: &mut [u16]) -> u8;
+
+    /// Writes a frame of 22 fields into a buffer: 0, or the refusal.
+    fn frame_write(&self, fields: &mut [u16], buffer: &mut [u8]) -> u8;
+
+    /// Runs a script; gives the number of bytes printed.
+    fn run_script(&self, script: &mut [u8], air: &mut [u8], output: &mut [u8]) -> usize;
+
+    /// Runs a script and writes the state behind it; gives that one's length, or 0.
+    fn script_state(&self, script: &mut [u8], air: &mut [u8], state: &mut [u8]) -> usize;
 }
 
-/// The library's answer for these bytes: 0, or the refusal number.
-///
-/// The bytes are lent as changeable only so that the compiler does not assume
-/// them unchanged: the caller compares them before and after.
-pub fn frame_check(bytes: &mut [u8]) -> u8 {
-    // SAFETY: the pointer and the length are those of one slice, and the
-    // function keeps no pointer once it has returned.
-    unsafe { drift_frame_check(bytes.as_mut_ptr(), bytes.len()) }
+/// The static library of the proved crates.
+pub struct Proved;
+
+extern "C" {
+    fn drift_frame_check(bytes: *const u8, length: usize) -> u8;
+
+    fn drift_frame_read(
+        bytes: *const u8,
+        length: usize,
+        fields: *mut u16,
+        fields_length: usize,
+    ) -> u8;
+
+    fn drift_frame_write(
+        fields: *const u16,
+        fields_length: usize,
+        buffer: *mut u8,
+        buffer_length: usize,
+    ) -> u8;
+
+    fn drift_run_script(
+        script: *const u8,
+        script_length: usize,
+        air: *mut u8,
+        air_length: usize,
+        output: *mut u8,
+        output_length: usize,
+    ) -> usize;
+
+    fn drift_script_state(
+        script: *const u8,
+        script_length: usize,
+        air: *mut u8,
+        air_length: usize,
+        state: *mut u8,
+        state_length: usize,
+    ) -> usize;
+}
+
+// SAFETY, for each call: every pointer goes with the length of its own slice,
+// the slices do not overlap, and no function keeps a pointer once it has
+// returned.
+impl Library for Proved {
+    fn frame_check(&self, bytes: &mut [u8]) -> u8 {
+        unsafe { drift_frame_check(bytes.as_mut_ptr(), bytes.len()) }
+    }
+
+    fn frame_read(&self, bytes: &mut [u8], fields: &mut [u16]) -> u8 {
+        unsafe {
+            drift_frame_read(
+                bytes.as_mut_ptr(),
+                bytes.len(),
+                fields.as_mut_ptr(),
+                fields.len(),
+            )
+        }
+    }
+
+    fn frame_write(&self, fields: &mut [u16], buffer: &mut [u8]) -> u8 {
+        unsafe {
+            drift_frame_write(
+                fields.as_mut_ptr(),
+                fields.len(),
+                buffer.as_mut_ptr(),
+                buffer.len(),
+            )
+        }
+    }
+
+    fn run_script(&self, script: &mut [u8], air: &mut [u8], output: &mut [u8]) -> usize {
+        unsafe {
+            drift_run_script(
+                script.as_mut_ptr(),
+                script.len(),
+                air.as_mut_ptr(),
+                air.len(),
+                output.as_mut_ptr(),
+                output.len(),
+            )
+        }
+    }
+
+    fn script_state(&self, script: &mut [u8], air: &mut [u8], state: &mut [u8]) -> usize {
+        unsafe {
+            drift_script_state(
+                script.as_mut_ptr(),
+                script.len(),
+                air.as_mut_ptr(),
+                air.len(),
+                state.as_mut_ptr(),
+                state.len(),
+            )
+        }
+    }
 }

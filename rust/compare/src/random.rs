@@ -9,6 +9,12 @@ impl Random {
         Random { state: seed }
     }
 
+    /// For the input of this number: with each seed and number another row.
+    pub fn numbered(seed: u64, number: u64) -> Random {
+        let mixed = Random::new(seed).bits();
+        Random::new(Random::new(mixed ^ number).bits())
+    }
+
     /// The next 64 random bits.
     pub fn bits(&mut self) -> u64 {
         self.state = self.state.wrapping_add(0x9E37_79B9_7F4A_7C15);

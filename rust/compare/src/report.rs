@@ -1,8 +1,8 @@
 //! A difference between two responses in readable words.
 
 use crate::layout::{
-    pair, Bytes, BUFFER_AREA, CLOCK, FRAME_AREA, LAST, LENGTH, LOG, LOGGED, RECORD, SERIAL, STAMPS,
-    TABLE, WORDS,
+    pair, Bytes, BUFFER_AREA, CLOCK, FRAME_AREA, LAST, LOG, LOGGED, RECORD, SERIAL, STAMPS, TABLE,
+    WORDS,
 };
 use crate::posts::Difference;
 use crate::request::{Lent, Request};
@@ -27,7 +27,7 @@ pub fn describe(difference: &Difference) -> String {
     describe_record(&request.post, &mut line);
     line("second implementation", &head(&difference.reference));
     line("program", &head(&difference.response));
-    let fields = differing_fields(&difference.reference, &difference.response);
+    let fields = differing_fields(&difference.reference, &difference.response, field);
     for (name, reference, response) in fields.iter().take(PRINTED_FIELDS) {
         let values = format!("second implementation {reference}, program {response}");
         line("differs", &format!("{name}: {values}"));
@@ -97,7 +97,7 @@ fn lent(lent: &Lent) -> String {
     format!("({} bytes) {}", lent.length, hex(lent.bytes()))
 }
 
-fn hex(bytes: &[u8]) -> String {
+pub fn hex(bytes: &[u8]) -> String {
     bytes.iter().fold(String::new(), |mut text, byte| {
         let space = if text.is_empty() { "" } else { " " };
         write!(text, "{space}{byte:02X}").expect("a string takes every text");
@@ -106,12 +106,17 @@ fn hex(bytes: &[u8]) -> String {
 }
 
 /// Names of the fields that differ, with the second implementation's value first.
-fn differing_fields(reference: &Bytes, response: &Bytes) -> Vec<(String, u16, u16)> {
+/// `field` gives name and number of bytes of the field that starts at a byte.
+pub fn differing_fields(
+    reference: &[u8],
+    response: &[u8],
+    field: impl Fn(usize) -> (String, usize),
+) -> Vec<(String, u16, u16)> {
     let mut fields = Vec::new();
     let mut at = 0;
-    while at < LENGTH {
+    while at < reference.len() {
         let (name, width) = field(at);
-        let value = |bytes: &Bytes| match width {
+        let value = |bytes: &[u8]| match width {
             1 => u16::from(bytes[at]),
             _ => pair(bytes, at),
         };
@@ -134,7 +139,14 @@ fn field(at: usize) -> (String, usize) {
         5..FRAME_AREA => (format!("byte {at}, which is 0 in every response"), 1),
         FRAME_AREA..BUFFER_AREA => (format!("byte {} of the frame's area", at - FRAME_AREA), 1),
         BUFFER_AREA..RECORD => (format!("byte {} of the buffer's area", at - BUFFER_AREA), 1),
-        RECORD..CLOCK => (["lane", "posts", "sources", "dests"][at - RECORD].into(), 1),
+        _ => record_field(at - RECORD),
+    }
+}
+
+/// Name and number of bytes of the field that starts at a byte of a record.
+pub fn record_field(at: usize) -> (String, usize) {
+    match at {
+        0..CLOCK => (["lane", "posts", "sources", "dests"][at].into(), 1),
         CLOCK..SERIAL => ("clock".into(), 2),
         SERIAL..LAST => ("own serial".into(), 1),
         LAST..TABLE => (format!("last taken of lane {}", at - LAST), 1),
@@ -153,7 +165,7 @@ fn field(at: usize) -> (String, usize) {
 }
 
 /// Lane and serial of the two bytes at an offset, with so many serials in a lane.
-fn lane_and_serial(offset: usize, serials: usize, first: usize) -> String {
+pub fn lane_and_serial(offset: usize, serials: usize, first: usize) -> String {
     let place = offset / 2;
     let (lane, serial) = (place / serials, place % serials + first);
     format!("lane {lane}, serial {serial}")

@@ -101,7 +101,7 @@ impl Request {
             word: pair(bytes, 1),
             frame: Lent::read(bytes, FRAME_AREA, bytes[3]),
             buffer: Lent::read(bytes, BUFFER_AREA, bytes[4]),
-            post: read_record(bytes),
+            post: read_record(&bytes[RECORD..]),
         }
     }
 
@@ -111,7 +111,7 @@ impl Request {
         bytes[..6].copy_from_slice(&head);
         bytes[FRAME_AREA..BUFFER_AREA].copy_from_slice(&self.frame.area);
         bytes[BUFFER_AREA..RECORD].copy_from_slice(&self.buffer.area);
-        write_record(&self.post, &mut bytes);
+        write_record(&self.post, &mut bytes[RECORD..]);
         bytes
     }
 

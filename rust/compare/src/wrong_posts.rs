@@ -7,7 +7,8 @@ mod refusals;
 mod steps;
 
 use crate::layout::{
-    Bytes, BUFFER_AREA, CLOCK, FRAME_AREA, LENGTH, LOG, LOGGED, RECORD, SERIAL, TABLE,
+    Bytes, BUFFER_AREA, CLOCK, FRAME_AREA, LENGTH, LOG, LOGGED, RECORD, RECORD_LENGTH, SERIAL,
+    TABLE,
 };
 use crate::posts::{Comparison, Requests};
 use crate::report;
@@ -172,7 +173,7 @@ fn wrong_answers_and_records_are_noticed() {
     assert_noticed("the count is always 0", no_count);
     let whole_log = changed(|_, response| {
         if response[0] != 0 && response[2] != 0 {
-            response[2] = response[LOGGED];
+            response[2] = response[RECORD + LOGGED];
         }
     });
     assert_noticed("the count is the length of the log", whole_log);
@@ -190,7 +191,7 @@ fn wrong_answers_and_records_are_noticed() {
     assert_noticed("a refused fresh post keeps the record", kept);
     let not_fresh = changed(|request, response| {
         if response[0] == 7 {
-            response[LOGGED] = request[LOGGED];
+            response[RECORD + LOGGED] = request[RECORD + LOGGED];
         }
     });
     assert_noticed("a fresh post keeps what stood there", not_fresh);
@@ -207,12 +208,13 @@ fn every_number_of_a_record_changes_in_some_step() {
             }
         }
     }
+    let changes = &changes[RECORD..];
     // Lane and sets stay in every step; from the clock on, everything can change.
-    assert_eq!(changes[RECORD..CLOCK], [false; 4]);
+    assert_eq!(changes[..CLOCK], [false; 4]);
     let wide = (CLOCK..SERIAL).chain(TABLE..LOG).step_by(2);
     let stayed = wide.filter(|&at| !changes[at] && !changes[at + 1]);
     assert_eq!(stayed.collect::<Vec<usize>>(), []);
-    let narrow = (SERIAL..TABLE).chain(LOG..LENGTH);
+    let narrow = (SERIAL..TABLE).chain(LOG..RECORD_LENGTH);
     let stayed = narrow.filter(|&at| !changes[at]);
     assert_eq!(stayed.collect::<Vec<usize>>(), []);
 }

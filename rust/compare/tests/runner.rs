@@ -60,7 +60,7 @@ fn compare(program: impl AsRef<Path>, arguments: &[&str]) -> (Option<i32>, Strin
 
 /// The comparison must fail with this one line of error.
 fn assert_fails(program: &str, expected: &str) {
-    let (code, output, error) = compare(program, &["1", "0", "3000"]);
+    let (code, output, error) = compare(program, &["posts", "1", "3000"]);
     assert_eq!(code, Some(1), "{program}: {output}{error}");
     assert_eq!(error.lines().count(), 1, "{program}: {error}");
     assert!(error.contains(expected), "{program}: {error}");
@@ -69,24 +69,24 @@ fn assert_fails(program: &str, expected: &str) {
 
 #[test]
 fn the_second_implementation_agrees_with_itself() {
-    let (code, output, error) = compare(REFERENCE, &[]);
+    let (code, output, error) = compare(REFERENCE, &["posts", "1", "60000"]);
     assert_eq!((code, error.as_str()), (Some(0), ""), "{output}");
-    assert!(output.contains("post_steps and the second implementation agree (seed 1)"));
+    assert!(output.starts_with("posts: post_steps and second implementation agree (seed 1)\n"));
     let all = output.lines().find(|line| line.starts_with("all"));
     assert!(all.is_some_and(|line| line.ends_with(" 60000")), "{output}");
 }
 
 #[test]
 fn a_program_may_answer_everything_at_the_end() {
-    let (code, output, error) = compare("at_once", &["2", "0", "20000"]);
+    let (code, output, error) = compare("at_once", &["posts", "2", "20000"]);
     assert_eq!((code, error.as_str()), (Some(0), ""), "{output}");
 }
 
 #[test]
 fn a_wrong_program_is_noticed() {
-    let (code, output, error) = compare("echo", &["5", "0"]);
+    let (code, output, error) = compare("echo", &["posts", "5", "100"]);
     assert_eq!((code, error.as_str()), (Some(1), ""), "{output}");
-    assert!(output.contains("post_steps and the second implementation differ (seed 5)"));
+    assert!(output.starts_with("posts: post_steps differs after 0 requests (seed 5)\n"));
     assert!(output.contains("request 0"), "{output}");
     assert!(output.contains("differs "), "{output}");
 }
@@ -108,15 +108,47 @@ fn programs_that_do_not_answer_fail() {
 #[test]
 fn too_few_requests_fail() {
     for count in ["0", "5"] {
-        let (code, output, error) = compare(REFERENCE, &["1", "0", count]);
+        let (code, output, error) = compare(REFERENCE, &["posts", "1", count]);
         assert_eq!((code, error.as_str()), (Some(1), ""), "{output}");
         assert!(output.contains("order: order sent never came"), "{output}");
     }
 }
 
 #[test]
+fn every_part_is_run_and_told() {
+    // With so few inputs not everything comes, but nothing differs.
+    let (code, output, error) = compare(REFERENCE, &["3", "10", "10", "10", "2"]);
+    assert_eq!((code, error.as_str()), (Some(1), ""), "{output}");
+    for line in [
+        "frames: static library and second implementation agree (seed 3)",
+        "posts: post_steps and second implementation agree (seed 3)",
+        "scripts: static library and second implementation agree (seed 3)",
+        "lists: demand 3 holds for the static library (seed 3)",
+    ] {
+        assert!(output.lines().any(|told| told == line), "{line}\n{output}");
+    }
+}
+
+#[test]
+fn one_part_is_run_alone() {
+    let (code, output, error) = compare(REFERENCE, &["second-lists", "1", "60", "5"]);
+    assert_eq!((code, error.as_str()), (Some(0), ""), "{output}");
+    assert!(output.starts_with("lists: demand 3 holds for the second implementation (seed 1)\n"));
+    let (code, output, error) = compare(REFERENCE, &["frames", "1", "1000"]);
+    assert_eq!((code, error.as_str()), (Some(0), ""), "{output}");
+    assert!(!output.contains("posts: "), "{output}");
+}
+
+#[test]
 fn bad_arguments_are_told() {
-    for arguments in [&["x"] as &[&str], &["1", "2", "-3"], &["1", "2", "3", "4"]] {
+    let bad: [&[&str]; 5] = [
+        &["x"],
+        &["1", "2", "-3"],
+        &["1", "2", "3", "4", "5", "6"],
+        &["scripts", "1"],
+        &["posts", "1", "2", "3"],
+    ];
+    for arguments in bad {
         let (code, output, error) = compare(REFERENCE, arguments);
         assert_eq!((code, output.as_str()), (Some(2), ""));
         assert!(error.starts_with("usage: "), "{error}");

@@ -1,20 +1,20 @@
-//! Tests that the comparison passes right judges and notices wrong ones.
+//! Tests that the comparison of frames passes right libraries and notices wrong
+//! checks, readers and writers.
+
+mod readers_and_writers;
 
 use crate::frames::{compare, good_frame, Tally, ANSWERS};
-use crate::library;
+use crate::library::{Library, Proved};
+use crate::patched::Patched;
 use crate::random::Random;
+use crate::second::Second;
 use drift_reference::frame::{check, Frame, BEACON, FRAME_LENGTH, ORDER};
 
 const SEED: u64 = 1;
 const COUNT: u64 = 20_000;
 
-/// The right judge.
-fn right(bytes: &mut [u8]) -> u8 {
-    check(bytes)
-}
-
 /// A judge that first changes its copy of a frame and then judges rightly.
-fn blind(change: impl Fn(&mut [u8])) -> impl Fn(&mut [u8]) -> u8 {
+fn blind(change: impl Fn(&mut [u8]) + 'static) -> impl Fn(&mut [u8]) -> u8 {
     move |bytes| {
         let mut copy = bytes.to_vec();
         if copy.len() == FRAME_LENGTH {
@@ -33,23 +33,37 @@ fn accepts(kind: u8, position: usize, bad: u8, good: u8) -> impl Fn(&mut [u8]) -
     })
 }
 
-fn assert_noticed(name: &str, judge: impl Fn(&mut [u8]) -> u8) {
-    assert!(compare(judge, SEED, COUNT).is_err(), "not noticed: {name}");
+fn assert_noticed(name: &str, judge: impl Fn(&mut [u8]) -> u8 + 'static) {
+    let patched = Patched {
+        frame_check: Box::new(judge),
+        ..Patched::default()
+    };
+    assert_library_noticed(name, "drift_frame_check", patched);
+}
+
+/// The difference must be found in the calls of this function.
+fn assert_library_noticed(name: &str, function: &str, library: Patched) {
+    let found = compare(&library, SEED, COUNT);
+    let found = found.expect_err(&format!("not noticed: {name}"));
+    assert_eq!(found.function(), function, "{name}");
+    let text = found.to_string();
+    assert!(text.contains(function), "{text}");
 }
 
 #[test]
-fn right_judges_pass_and_every_answer_comes() {
-    for judge in [right, library::frame_check] {
-        let tally = compare(judge, SEED, COUNT).expect("a right judge passes");
-        assert_eq!(tally.never_came().count(), 0);
-        let sum: u64 = ANSWERS.into_iter().map(|answer| tally.of(answer)).sum();
-        assert_eq!(tally.total(), sum);
+fn right_libraries_pass_and_every_answer_comes() {
+    let libraries: [&dyn Library; 2] = [&Second, &Proved];
+    for library in libraries {
+        let tally = compare(library, SEED, COUNT).expect("a right library passes");
+        assert_eq!(tally.never_came(), Vec::<String>::new());
     }
 }
 
 #[test]
 fn answers_that_never_came_are_told() {
-    assert!(Tally::default().never_came().eq(ANSWERS));
+    let never = Tally::default().never_came();
+    assert_eq!(never.len(), 3 * ANSWERS.len() + 1);
+    assert!(never.contains(&"drift_frame_write: answer 11".to_string()));
 }
 
 #[test]
@@ -98,7 +112,7 @@ fn wrong_kinds_and_senders_are_noticed() {
 fn unseen_bytes_of_a_beacon_are_noticed() {
     for position in 2..=7 {
         let name = format!("does not look at byte {position} of a beacon");
-        let judge = blind(|frame| {
+        let judge = blind(move |frame| {
             if frame[0] == BEACON {
                 frame[position] = 0;
             }
@@ -127,15 +141,15 @@ fn wrong_orders_are_noticed() {
 #[test]
 fn wrong_entries_are_noticed() {
     for at in (8..FRAME_LENGTH).step_by(3) {
-        let unseen = blind(|frame| frame[at..at + 3].fill(0));
+        let unseen = blind(move |frame| frame[at..at + 3].fill(0));
         assert_noticed(&format!("does not look at the entry at {at}"), unseen);
-        let stamp_zero = blind(|frame| {
+        let stamp_zero = blind(move |frame| {
             if frame[at..at + 3] == [1, 0, 0] {
                 frame[at] = 0;
             }
         });
         assert_noticed(&format!("accepts 1, stamp 0 at {at}"), stamp_zero);
-        let serial_zero = blind(|frame| {
+        let serial_zero = blind(move |frame| {
             if frame[at] == 0 && frame[at + 2] != 0 {
                 frame[at] = 17;
             }

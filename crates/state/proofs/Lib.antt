@@ -1,0 +1,4 @@
+pub mod Laws
+pub mod LineLaws
+pub mod StepWays
+pub mod StateWays

@@ -1,0 +1,24 @@
+use borrow.Author.Needs.{needs}
+use Rattle.state.proofs.line_steps.yard_of.Statement.{statement}
+use Rattle.state.proofs.line_steps.yard_of.Tie as tie
+
+returns : tie.Need-returns
+returns c = rw (c .before .before .l .given .1) (c .fresh .ensures)
+
+returns-2 : tie.Need-returns-2
+returns-2 c = rw (c .before .enum-told .given .1) (c .fresh2 .ensures)
+
+returns-3 : tie.Need-returns-3
+returns-3 c = rw (c .before .enum-told2 .given .1) (c .fresh3 .ensures)
+
+returns-4 : tie.Need-returns-4
+returns-4 c = rw (c .before .enum-told3 .given .1) (c .fresh4 .ensures)
+
+returns-5 : tie.Need-returns-5
+returns-5 c = rw (c .before .enum-told4 .given .1) (c .fresh5 .ensures)
+
+returns-6 : tie.Need-returns-6
+returns-6 c = rw (c .before .enum-told5 .given .1) (c .fresh6 .ensures)
+
+pub yard-of-spec : {M : Type 1} → statement M
+yard-of-spec = tie.close (tie.spec (λ c. search needs) (λ c κs. tt) (λ c. search needs) (λ c κs. tt) (λ c. search needs) (λ c κs. tt) (λ c. search needs) (λ c κs. tt) (λ c. search needs) (λ c κs. tt) (λ c. search needs) (λ c κs. tt) returns returns-2 returns-3 returns-4 returns-5 returns-6)

@@ -1,0 +1,80 @@
+//! How much of demand 3 was looked at.
+
+use crate::state::{Answer, Answered, ANSWERS};
+use std::fmt;
+
+#[derive(Debug, Default)]
+pub struct Tally {
+    pub lists: u64,
+    answers: [u64; ANSWERS.len()],
+    /// Logs that were read, and of them those that are not empty, and those that
+    /// are not yet all orders sent.
+    logs: u64,
+    filled_logs: u64,
+    shorter_logs: u64,
+    /// Pairs of different logs of one list.
+    pub pairs: u64,
+    roll_call_steps: u64,
+    orders_in_roll_calls: u64,
+    roll_calls_without_orders: u64,
+}
+
+impl Tally {
+    pub fn add_step(&mut self, answered: Answered) {
+        self.answers[answered.answer as usize] += 1;
+    }
+
+    pub fn add_log(&mut self, length: usize, sent: usize) {
+        self.logs += 1;
+        self.filled_logs += u64::from(length > 0);
+        self.shorter_logs += u64::from(0 < length && length < sent);
+    }
+
+    pub fn add_roll_call(&mut self, steps: usize, orders: usize) {
+        self.roll_call_steps += steps as u64;
+        self.orders_in_roll_calls += orders as u64;
+        self.roll_calls_without_orders += u64::from(orders == 0);
+    }
+
+    fn of(&self, answer: Answer) -> u64 {
+        self.answers[answer as usize]
+    }
+
+    /// The counts with their names; each of them must be above 0.
+    fn counts(&self) -> [(&'static str, u64); 17] {
+        [
+            ("lists of steps", self.lists),
+            ("steps", self.answers.iter().sum()),
+            ("orders sent", self.of(Answer::OrderSent)),
+            ("taken", self.of(Answer::Taken)),
+            ("again", self.of(Answer::Again)),
+            ("early", self.of(Answer::Early)),
+            ("beacons heard", self.of(Answer::BeaconHeard)),
+            ("beacons sent", self.of(Answer::BeaconSent)),
+            ("refused steps", self.of(Answer::Refused)),
+            ("roll calls", self.of(Answer::RollCallRan)),
+            ("their single steps", self.roll_call_steps),
+            ("orders logged after them", self.orders_in_roll_calls),
+            ("roll calls without orders", self.roll_calls_without_orders),
+            ("logs read", self.logs),
+            ("logs with orders", self.filled_logs),
+            ("logs with some of the orders", self.shorter_logs),
+            ("pairs of different logs", self.pairs),
+        ]
+    }
+
+    /// What never came, so that nothing is checked for it.
+    pub fn never_came(&self) -> Vec<String> {
+        let never = self.counts().into_iter().filter(|&(_, count)| count == 0);
+        never.map(|(name, _)| name.to_string()).collect()
+    }
+}
+
+impl fmt::Display for Tally {
+    fn fmt(&self, output: &mut fmt::Formatter) -> fmt::Result {
+        for (name, count) in self.counts() {
+            writeln!(output, "{name:<30}{count:>12}")?;
+        }
+        Ok(())
+    }
+}

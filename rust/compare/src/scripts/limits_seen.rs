@@ -1,0 +1,112 @@
+//! What scripts must reach, each with a name for the case that none does.
+
+use super::case::{Case, Outcome};
+use super::draft::LONGEST_SCRIPT;
+use super::step::YardLine;
+use crate::state::{Answer, State, STATE_LENGTH};
+use drift_reference::script::OUTPUT_LENGTH;
+use drift_reference::yard::AIR_LENGTH;
+
+/// A case and the right outcome of it.
+pub struct Look<'a> {
+    pub case: &'a Case,
+    pub outcome: &'a Outcome,
+}
+
+type Limit = (&'static str, fn(&Look) -> bool);
+
+/// The limits of document 01, and yards of all sizes and roles.
+pub const LIMITS: [Limit; 29] = [
+    ("the empty script", |look| look.case.script.is_empty()),
+    ("a script of 48,000 bytes that runs", |look| {
+        look.case.script.len() == LONGEST_SCRIPT && look.state().is_some()
+    }),
+    ("a script of 48,001 bytes", |look| {
+        look.case.script.len() == LONGEST_SCRIPT + 1
+    }),
+    ("no line feed at the end", |look| {
+        look.case.script.last().is_some_and(|&byte| byte != b'\n')
+    }),
+    ("a printout of over 128,000 bytes", |look| {
+        look.outcome.printout.len() > 128_000
+    }),
+    ("an air of no bytes", |look| look.case.air_length == 0),
+    ("an air that is too short", |look| {
+        look.case.air_length == AIR_LENGTH - 1
+    }),
+    ("an air that is too long", |look| {
+        look.case.air_length == AIR_LENGTH + 1
+    }),
+    ("an output of another length", |look| {
+        look.case.output_length != OUTPUT_LENGTH
+    }),
+    ("a state of another length", |look| {
+        look.case.state_length != STATE_LENGTH
+    }),
+    ("16 orders of lane 0", |look| look.has_sent_all(0)),
+    ("16 orders of lane 3", |look| look.has_sent_all(3)),
+    ("16 orders of lane 7", |look| look.has_sent_all(7)),
+    ("a full log", |look| {
+        let state = look.state();
+        state.is_some_and(|state| (0..8).any(|lane| state.post(lane).logged == 128))
+    }),
+    ("1,024 beacons", |look| {
+        look.state().is_some_and(|state| state.beacons() == 1_024)
+    }),
+    ("2,048 frames", |look| {
+        look.state().is_some_and(|state| state.frames() == 2_048)
+    }),
+    ("a roll call of 0 steps", |look| look.steps() == Some(0)),
+    ("a roll call of 1 step", |look| look.steps() == Some(1)),
+    ("a roll call of 500 steps", |look| {
+        look.steps().is_some_and(|steps| steps >= 500)
+    }),
+    ("a yard of 1 post", |look| look.has_posts(1)),
+    ("a yard of 2 posts", |look| look.has_posts(2)),
+    ("a yard of 3 posts", |look| look.has_posts(3)),
+    ("a yard of 4 posts", |look| look.has_posts(4)),
+    ("a yard of 5 posts", |look| look.has_posts(5)),
+    ("a yard of 6 or 7 posts", |look| {
+        look.has_posts(6) || look.has_posts(7)
+    }),
+    ("a yard of 8 posts", |look| look.has_posts(8)),
+    ("a yard without a source", |look| {
+        look.yard().is_some_and(|yard| yard.sources == 0)
+    }),
+    ("a yard without a destination", |look| {
+        look.yard().is_some_and(|yard| yard.dests == 0)
+    }),
+    ("a yard with a relay", |look| {
+        let yard = look.yard();
+        yard.is_some_and(|yard| yard.posts & !yard.sources & !yard.dests != 0)
+    }),
+];
+
+impl<'a> Look<'a> {
+    fn state(&self) -> Option<State<'a>> {
+        self.outcome.state.as_deref().map(State)
+    }
+
+    /// The yard of a script that ran.
+    fn yard(&self) -> Option<YardLine> {
+        self.state()?;
+        let first = self.case.script.split(|&byte| byte == b'\n').next()?;
+        YardLine::read(first)
+    }
+
+    fn has_posts(&self, number: u32) -> bool {
+        let yard = self.yard();
+        yard.is_some_and(|yard| yard.posts.count_ones() == number)
+    }
+
+    fn has_sent_all(&self, lane: usize) -> bool {
+        let state = self.state();
+        state.is_some_and(|state| state.post(lane).serial.0 == 16)
+    }
+
+    /// The steps of the roll call that is the last line.
+    fn steps(&self) -> Option<u16> {
+        let answered = self.state()?.answered()?;
+        (answered.answer == Answer::RollCallRan).then_some(answered.steps)
+    }
+}

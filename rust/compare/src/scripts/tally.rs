@@ -1,0 +1,185 @@
+//! How often each answer, refusal, size and limit of scripts came.
+
+use super::case::{Case, Outcome};
+use super::limits_seen::{Look, LIMITS};
+use super::step::{Step, STEPS};
+use crate::state::{Answer, State, ANSWERS};
+use std::fmt;
+
+/// The refusals that each step can give in a yard.
+const POSSIBLE: [&[u8]; STEPS.len()] = [
+    &[13, 21, 22, 23],
+    &[13, 21, 25, 26],
+    &[13, 21, 27],
+    &[13, 27],
+];
+
+/// The answers that carry a count delivered, each of which can be above 0.
+const DELIVERING: [Answer; 5] = [
+    Answer::OrderSent,
+    Answer::Taken,
+    Answer::Again,
+    Answer::Early,
+    Answer::BeaconHeard,
+];
+
+/// One more than the highest refusal number of a script or a step in it.
+const REFUSALS: usize = 28;
+
+/// Upper ends of the sizes that are told apart, in bytes.
+const SIZES: [usize; 6] = [50, 500, 5_000, 47_999, 48_000, usize::MAX];
+
+type ByStep = [[u64; REFUSALS]; STEPS.len()];
+
+#[derive(Debug, Default)]
+pub struct Tally {
+    sizes: [u64; SIZES.len()],
+    /// Bad scripts, by refusal.
+    bad: [u64; 6],
+    /// What the last line answered: by answer, and of them the delivering ones.
+    answers: [u64; ANSWERS.len()],
+    delivering: [u64; ANSWERS.len()],
+    /// Refusals that the last line answered, and refusals that were printed.
+    last: ByStep,
+    printed: ByStep,
+    limits: [u64; LIMITS.len()],
+}
+
+impl Tally {
+    /// Counts a case with the right outcome of it.
+    pub fn add(&mut self, case: &Case, outcome: &Outcome) {
+        let size = SIZES.iter().position(|&end| case.script.len() <= end);
+        self.sizes[size.expect("a length has a size")] += 1;
+        let lines = lines(&case.script);
+        let state = outcome.state.as_deref().map(State);
+        if let Some(answered) = state.and_then(State::answered) {
+            self.answers[answered.answer as usize] += 1;
+            self.delivering[answered.answer as usize] += u64::from(answered.count > 0);
+            if let Some(step) = lines.last().copied().and_then(Step::read) {
+                self.last[step.kind()][usize::from(answered.refusal)] += 1;
+            }
+        }
+        for refused in outcome.printout.split(|&byte| byte == b'\n') {
+            match numbers_after(refused, "(refused ") {
+                Some((line, number)) => {
+                    let step = Step::read(lines[line - 1]).expect("a refused line is a step");
+                    self.printed[step.kind()][number] += 1;
+                }
+                None => {
+                    let bad = numbers_after(refused, "(bad ");
+                    self.bad[bad.map_or(0, |(_, number)| number)] += 1;
+                }
+            }
+        }
+        let look = Look { case, outcome };
+        for (count, (_, is_reached)) in self.limits.iter_mut().zip(LIMITS) {
+            *count += u64::from(is_reached(&look));
+        }
+    }
+
+    pub fn total(&self) -> u64 {
+        self.sizes.iter().sum()
+    }
+
+    /// What never came, so that the comparison says nothing of it.
+    pub fn never_came(&self) -> Vec<String> {
+        let mut counts = self.counts_of_scripts();
+        for (answer, name) in ANSWERS {
+            let place = answer as usize;
+            counts.push((self.answers[place], format!("last line: {name}")));
+            if DELIVERING.contains(&answer) {
+                let name = format!("last line: {name} with a delivery");
+                counts.push((self.delivering[place], name));
+            }
+        }
+        for (step, refusals) in POSSIBLE.iter().enumerate() {
+            for &number in *refusals {
+                let name = format!("{}: refused by {number}", STEPS[step]);
+                let place = usize::from(number);
+                counts.push((self.last[step][place], format!("last line: {name}")));
+                counts.push((self.printed[step][place], format!("printed: {name}")));
+            }
+        }
+        let never = counts.into_iter().filter(|&(count, _)| count == 0);
+        never.map(|(_, name)| name).collect()
+    }
+
+    /// The counts of bad scripts, sizes and limits, with their names.
+    fn counts_of_scripts(&self) -> Vec<(u64, String)> {
+        let bad = self.bad.into_iter().enumerate().skip(1);
+        let bad = bad.map(|(number, count)| (count, format!("a script that is bad by {number}")));
+        let sizes = self.sizes.into_iter().zip(SIZES);
+        let sizes = sizes.map(|(count, end)| (count, format!("a script of up to {end} bytes")));
+        let limits = self.limits.into_iter().zip(LIMITS);
+        let limits = limits.map(|(count, (name, _))| (count, name.to_string()));
+        bad.chain(sizes).chain(limits).collect()
+    }
+
+    fn write_refusals(
+        &self,
+        output: &mut fmt::Formatter,
+        name: &str,
+        counts: &ByStep,
+    ) -> fmt::Result {
+        for number in 1..REFUSALS {
+            let is_possible = |step: usize| POSSIBLE[step].contains(&(number as u8));
+            if !(0..STEPS.len()).any(is_possible) {
+                continue;
+            }
+            write!(output, "{:<26}", format!("{name} {number}"))?;
+            for (step, counts) in counts.iter().enumerate() {
+                match is_possible(step) {
+                    true => write!(output, "{:>10}", counts[number])?,
+                    false => write!(output, "{:>10}", ".")?,
+                }
+            }
+            writeln!(output)?;
+        }
+        Ok(())
+    }
+}
+
+impl fmt::Display for Tally {
+    fn fmt(&self, output: &mut fmt::Formatter) -> fmt::Result {
+        writeln!(output, "{:<26}{:>10}", "scripts", self.total())?;
+        for (end, count) in SIZES.iter().zip(self.sizes) {
+            let name = match *end {
+                usize::MAX => "more bytes".to_string(),
+                _ => format!("up to {end} bytes"),
+            };
+            writeln!(output, "{name:<26}{count:>10}")?;
+        }
+        for (number, count) in self.bad.iter().enumerate().skip(1) {
+            writeln!(output, "{:<26}{count:>10}", format!("bad by {number}"))?;
+        }
+        writeln!(output, "{:<26}{:>10}{:>10}", "last line", "all", "deliver")?;
+        for (answer, name) in ANSWERS {
+            write!(output, "{name:<26}{:>10}", self.answers[answer as usize])?;
+            match DELIVERING.contains(&answer) {
+                true => writeln!(output, "{:>10}", self.delivering[answer as usize])?,
+                false => writeln!(output, "{:>10}", ".")?,
+            }
+        }
+        write!(output, "{:<26}", "refusals")?;
+        for name in STEPS {
+            write!(output, "{name:>10}")?;
+        }
+        writeln!(output)?;
+        self.write_refusals(output, "last line refused by", &self.last)?;
+        self.write_refusals(output, "printed: refused by", &self.printed)
+    }
+}
+
+/// The lines without their line feeds.
+fn lines(script: &[u8]) -> Vec<&[u8]> {
+    let whole = script.strip_suffix(b"\n").unwrap_or(script);
+    whole.split(|&byte| byte == b'\n').collect()
+}
+
+/// The two numbers of a printed line that starts so.
+fn numbers_after(line: &[u8], start: &str) -> Option<(usize, usize)> {
+    let text = std::str::from_utf8(line).ok()?;
+    let inside = text.strip_prefix(start)?.strip_suffix(')')?;
+    let (line, number) = inside.split_once(' ')?;
+    Some((line.parse().ok()?, number.parse().ok()?))
+}

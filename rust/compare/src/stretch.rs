@@ -1,0 +1,61 @@
+//! Numbers that are lent, with a margin on either side.
+
+use std::fmt::Debug;
+
+/// How many numbers stand before and after the lent ones.
+const MARGIN: usize = 40;
+
+/// The lent part of a row of numbers. Two rows are equal if the margins, which
+/// nobody may write, are equal too.
+#[derive(Clone, Debug, PartialEq, Eq)]
+pub struct Stretch<T> {
+    row: Vec<T>,
+}
+
+impl<T: Copy + Debug> Stretch<T> {
+    /// These numbers, with margins that repeat one number.
+    pub fn new(numbers: impl IntoIterator<Item = T>, margin: T) -> Stretch<T> {
+        let mut row = vec![margin; MARGIN];
+        row.extend(numbers);
+        row.extend([margin; MARGIN]);
+        Stretch { row }
+    }
+
+    /// The part that is lent.
+    pub fn lent(&mut self) -> &mut [T] {
+        let end = self.row.len() - MARGIN;
+        &mut self.row[MARGIN..end]
+    }
+
+    pub fn numbers(&self) -> &[T] {
+        &self.row[MARGIN..self.row.len() - MARGIN]
+    }
+
+    /// The margins, as one row.
+    pub fn margins(&self) -> impl Iterator<Item = T> + '_ {
+        let (before, rest) = self.row.split_at(MARGIN);
+        let after = &rest[rest.len() - MARGIN..];
+        before.iter().chain(after).copied()
+    }
+}
+
+#[cfg(test)]
+mod tests {
+    use super::{Stretch, MARGIN};
+
+    #[test]
+    fn the_margins_are_not_lent_but_compared() {
+        let whole = Stretch::new([1, 2, 3], 9);
+        assert_eq!(whole.numbers(), [1, 2, 3]);
+        assert_eq!(whole.clone().lent(), [1, 2, 3]);
+        assert!(whole.margins().eq([9; 2 * MARGIN]));
+        for at in 0..whole.row.len() {
+            let mut changed = whole.clone();
+            changed.row[at] = 0;
+            assert_ne!(changed, whole);
+            let in_margin = !(MARGIN..MARGIN + 3).contains(&at);
+            assert_eq!(changed.numbers() == whole.numbers(), in_margin);
+        }
+        assert_eq!(Stretch::<u8>::new([], 0).lent(), [0u8; 0]);
+    }
+}

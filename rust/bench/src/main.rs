@@ -5,7 +5,6 @@
 
 mod arguments;
 mod instructions;
-mod library;
 mod rows;
 mod side;
 mod table;

@@ -1,12 +1,10 @@
 //! The two sides that are measured, in the same shape.
 
-use crate::library;
+use drift_library as library;
 use drift_reference::frame::{check, Entry, Frame, Serial, Stamp, NOT_32_BYTES};
 use drift_reference::script;
 
-/// Number of fields of a frame: kind, sender, lane, serial, stamp, word, then
-/// for lanes 0 to 7 serial and stamp.
-pub const FIELDS: usize = 22;
+pub use drift_library::FRAME_FIELDS as FIELDS;
 
 /// The functions of one side. They are called through these pointers, so that
 /// neither side is built into the loop that calls it.

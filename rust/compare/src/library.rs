@@ -3,9 +3,9 @@
 
 #![allow(unsafe_code)]
 
-/// Number of fields of a frame: kind, sender, lane, serial, stamp, word, then
-/// for lanes 0 to 7 serial and stamp.
-pub const FIELDS: usize = 22;
+use drift_library::raw;
+
+pub use drift_library::FRAME_FIELDS as FIELDS;
 
 /// The functions on frames and scripts, by the static library or by another.
 ///
@@ -31,53 +31,17 @@ pub trait Library {
 /// The static library of the proved crates.
 pub struct Proved;
 
-extern "C" {
-    fn drift_frame_check(bytes: *const u8, length: usize) -> u8;
-
-    fn drift_frame_read(
-        bytes: *const u8,
-        length: usize,
-        fields: *mut u16,
-        fields_length: usize,
-    ) -> u8;
-
-    fn drift_frame_write(
-        fields: *const u16,
-        fields_length: usize,
-        buffer: *mut u8,
-        buffer_length: usize,
-    ) -> u8;
-
-    fn drift_run_script(
-        script: *const u8,
-        script_length: usize,
-        air: *mut u8,
-        air_length: usize,
-        output: *mut u8,
-        output_length: usize,
-    ) -> usize;
-
-    fn drift_script_state(
-        script: *const u8,
-        script_length: usize,
-        air: *mut u8,
-        air_length: usize,
-        state: *mut u8,
-        state_length: usize,
-    ) -> usize;
-}
-
 // SAFETY, for each call: every pointer goes with the length of its own slice,
 // the slices do not overlap, and no function keeps a pointer once it has
 // returned.
 impl Library for Proved {
     fn frame_check(&self, bytes: &mut [u8]) -> u8 {
-        unsafe { drift_frame_check(bytes.as_mut_ptr(), bytes.len()) }
+        unsafe { raw::drift_frame_check(bytes.as_mut_ptr(), bytes.len()) }
     }
 
     fn frame_read(&self, bytes: &mut [u8], fields: &mut [u16]) -> u8 {
         unsafe {
-            drift_frame_read(
+            raw::drift_frame_read(
                 bytes.as_mut_ptr(),
                 bytes.len(),
                 fields.as_mut_ptr(),
@@ -88,7 +52,7 @@ impl Library for Proved {
 
     fn frame_write(&self, fields: &mut [u16], buffer: &mut [u8]) -> u8 {
         unsafe {
-            drift_frame_write(
+            raw::drift_frame_write(
                 fields.as_mut_ptr(),
                 fields.len(),
                 buffer.as_mut_ptr(),
@@ -99,7 +63,7 @@ impl Library for Proved {
 
     fn run_script(&self, script: &mut [u8], air: &mut [u8], output: &mut [u8]) -> usize {
         unsafe {
-            drift_run_script(
+            raw::drift_run_script(
                 script.as_mut_ptr(),
                 script.len(),
                 air.as_mut_ptr(),
@@ -112,7 +76,7 @@ impl Library for Proved {
 
     fn script_state(&self, script: &mut [u8], air: &mut [u8], state: &mut [u8]) -> usize {
         unsafe {
-            drift_script_state(
+            raw::drift_script_state(
                 script.as_mut_ptr(),
                 script.len(),
                 air.as_mut_ptr(),

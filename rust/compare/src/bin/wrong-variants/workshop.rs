@@ -1,4 +1,4 @@
-//! A copy of both packages, in which the second implementation is made wrong,
+//! A copy of the packages that are needed, in which the second implementation is made wrong,
 //! built and compared.
 
 use super::edit::Edit;
@@ -23,7 +23,7 @@ const PARTS: [(&str, &str); 4] = [
 const MANIFEST: &str = "\
 [workspace]
 resolver = \"2\"
-members = [\"reference\", \"compare\"]
+members = [\"library\", \"reference\", \"compare\"]
 
 [profile.wrong-variants]
 inherits = \"dev\"
@@ -54,7 +54,7 @@ impl Workshop {
         let compare = Path::new(env!("CARGO_MANIFEST_DIR"));
         let original = compare.join("..").canonicalize()?;
         let copy = original.join("target/wrong-variants");
-        for package in ["reference", "compare"] {
+        for package in ["library", "reference", "compare"] {
             let old = copy.join(package);
             if old.exists() {
                 fs::remove_dir_all(&old)?;
@@ -62,9 +62,10 @@ impl Workshop {
             copy_folder(&original.join(package).join("src"), &old.join("src"))?;
         }
         for file in [
+            "library/Cargo.toml",
+            "library/build.rs",
             "reference/Cargo.toml",
             "compare/Cargo.toml",
-            "compare/build.rs",
         ] {
             fs::write(copy.join(file), fs::read(original.join(file))?)?;
         }

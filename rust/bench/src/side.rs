@@ -1,7 +1,7 @@
 //! The two sides that are measured, in the same shape.
 
 use drift_library as library;
-use drift_reference::frame::{check, Entry, Frame, Serial, Stamp, NOT_32_BYTES};
+use drift_reference::frame::{check, Frame, NOT_32_BYTES};
 use drift_reference::script;
 
 pub use drift_library::FRAME_FIELDS as FIELDS;
@@ -54,7 +54,7 @@ fn write_fields(fields: &[u16], buffer: &mut [u8]) -> u8 {
     let Ok(fields) = <&[u16; FIELDS]>::try_from(fields) else {
         return NOT_32_BYTES;
     };
-    frame_of(fields).write(buffer).err().unwrap_or(0)
+    Frame::from_fields(fields).write(buffer).err().unwrap_or(0)
 }
 
 fn run_script(script: &[u8], air: &mut [u8], output: &mut [u8]) -> usize {
@@ -71,22 +71,5 @@ fn store(frame: &Frame, fields: &mut [u16; FIELDS]) {
     for (pair, entry) in fields[6..].chunks_exact_mut(2).zip(&frame.entries) {
         pair[0] = entry.serial.0.into();
         pair[1] = entry.stamp.0;
-    }
-}
-
-/// The frame with these fields; a number over 255 in a field of one byte is 255.
-fn frame_of(fields: &[u16; FIELDS]) -> Frame {
-    let byte = |at: usize| fields[at].min(255) as u8;
-    Frame {
-        kind: byte(0),
-        sender: byte(1),
-        lane: byte(2),
-        serial: Serial(byte(3)),
-        stamp: Stamp(fields[4]),
-        word: fields[5],
-        entries: std::array::from_fn(|lane| Entry {
-            serial: Serial(byte(6 + 2 * lane)),
-            stamp: Stamp(fields[7 + 2 * lane]),
-        }),
     }
 }

@@ -2,7 +2,7 @@
 
 use crate::library::{Library, FIELDS};
 use crate::state::{write_state, STATE_LENGTH};
-use drift_reference::frame::{check, Entry, Frame, Serial, Stamp, NOT_32_BYTES};
+use drift_reference::frame::{check, Frame, NOT_32_BYTES};
 use drift_reference::script;
 
 /// The second implementation.
@@ -30,7 +30,7 @@ impl Library for Second {
         let Ok(fields) = <&[u16; FIELDS]>::try_from(&*fields) else {
             return NOT_32_BYTES;
         };
-        frame_of(fields).write(buffer).err().unwrap_or(0)
+        Frame::from_fields(fields).write(buffer).err().unwrap_or(0)
     }
 
     fn run_script(&self, script: &mut [u8], air: &mut [u8], output: &mut [u8]) -> usize {
@@ -66,21 +66,4 @@ pub fn fields_of(frame: &Frame) -> [u16; FIELDS] {
         pair.copy_from_slice(&[entry.serial.0.into(), entry.stamp.0]);
     }
     fields
-}
-
-/// The frame with these fields; a number over 255 in a field of one byte is 255.
-fn frame_of(fields: &[u16; FIELDS]) -> Frame {
-    let byte = |at: usize| fields[at].min(255) as u8;
-    Frame {
-        kind: byte(0),
-        sender: byte(1),
-        lane: byte(2),
-        serial: Serial(byte(3)),
-        stamp: Stamp(fields[4]),
-        word: fields[5],
-        entries: std::array::from_fn(|lane| Entry {
-            serial: Serial(byte(6 + 2 * lane)),
-            stamp: Stamp(fields[7 + 2 * lane]),
-        }),
-    }
 }

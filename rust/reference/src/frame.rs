@@ -77,6 +77,24 @@ pub struct Frame {
 }
 
 impl Frame {
+    /// The frame of a row of numbers: kind, sender, lane, serial, stamp, word, then
+    /// serial and stamp of each lane. One over 255 in a field of one byte is 255.
+    pub fn from_fields(fields: &[u16; 6 + 2 * LANES]) -> Frame {
+        let byte = |at: usize| fields[at].min(255) as u8;
+        Frame {
+            kind: byte(0),
+            sender: byte(1),
+            lane: byte(2),
+            serial: Serial(byte(3)),
+            stamp: Stamp(fields[4]),
+            word: fields[5],
+            entries: std::array::from_fn(|lane| Entry {
+                serial: Serial(byte(6 + 2 * lane)),
+                stamp: Stamp(fields[7 + 2 * lane]),
+            }),
+        }
+    }
+
     /// Reads a frame, or gives the refusal number, 6 to 11.
     pub fn read(bytes: &[u8]) -> Result<Frame, u8> {
         let bytes: &[u8; FRAME_LENGTH] = bytes.try_into().map_err(|_| NOT_32_BYTES)?;

@@ -79,6 +79,7 @@ pub struct Frame {
 impl Frame {
     /// The frame of a row of numbers: kind, sender, lane, serial, stamp, word, then
     /// serial and stamp of each lane. One over 255 in a field of one byte is 255.
+    #[inline]
     pub fn from_fields(fields: &[u16; 6 + 2 * LANES]) -> Frame {
         let byte = |at: usize| fields[at].min(255) as u8;
         Frame {

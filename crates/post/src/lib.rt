@@ -28,6 +28,17 @@ pub struct Post {
     pub logged: u8,
 }
 
+// A post without its arrays: what a step in place is handed, beside the arrays that are lent to it.
+pub struct Head {
+    pub lane: u8,
+    pub posts: u8,
+    pub sources: u8,
+    pub dests: u8,
+    pub clock: Stamp,
+    pub serial: Serial,
+    pub logged: u8,
+}
+
 impl Post {
     pub const LANES: u8 = 8;
 

@@ -1,3 +1,4 @@
 pub mod Turns
 pub mod Gathering
 pub mod Ways
+pub mod KnownLaws

@@ -103,7 +103,7 @@ log-from : (known : List ℕ) (p : Post) → Known known p → dueLogFrom known 
 unfolding dueLogFrom dueLog duePlacesFrom duePlaces
 log-from known p all = rw (below-from known p 128 (omega arith) all)
 
-joined-is : (known : List ℕ) (p : Post) → Known known p
+pub joined-is : (known : List ℕ) (p : Post) → Known known p
     → _≡_ {A = Delivered} (record { post = withLog p (joinedFrom known p .log) (joinedFrom known p .logged); count = joinedFrom known p .count }) (delivered p)
 unfolding joinedFrom delivered
 joined-is known p all = rw (log-from known p all) (go (isDest p (p .lane)))

@@ -1,4 +1,5 @@
 pub mod Turns
 pub mod Gathering
+pub mod Waiting
 pub mod Ways
 pub mod KnownLaws

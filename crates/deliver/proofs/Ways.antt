@@ -1,47 +1,93 @@
 -- The ways through `join` and `deliver`. Assumes nothing.
-use mathlib.Core.Path.{_≡_, sym, ap, _∙_}
+use mathlib.Core.Path.{_≡_, refl, sym, ap, _∙_}
 use mathlib.Core.List.{List, map}
 use mathlib.Core.Bool.{Bool, true, false}
-use Prim.Native.Nat.{ℕ, _+_, _%_, _≤_, min}
+use Prim.Native.Nat.{ℕ, _+_, _-_, _%_, _≤_, min}
 use native.Mathlib.Omega.{arith}
 use lib.ListN.{length, take, replicate, length-take, length-map}
 use lib.Seq.{sets}
+use Rattle.frame.specs.Lanes.{anyBelow}
 use Rattle.post.specs.declared.Post.{Post}
 use Rattle.post.specs.Record.{isDest, withLog}
 use Rattle.deliver.specs.declared.Delivered.{Delivered}
+use Rattle.deliver.specs.declared.Joined.{Joined}
 use Rattle.deliver.specs.declared.NewLog.{NewLog}
 use Rattle.deliver.specs.declared.Least.{Least}
-use Rattle.deliver.specs.Delivery.{sort, dueBelow, duePlaces, dueLog, delivered}
-use Rattle.deliver.specs.Loops.{leastBelow, marksBelow, Gathered, gathered, appendedBelow}
-use Rattle.deliver.proofs.Gathering.{gatheredOf, sorts, appended-is}
+use Rattle.deliver.specs.Delivery.{sort, delivered}
+use Rattle.deliver.specs.Known.{dueBelowFrom, duePlacesFrom, dueLogFrom, joinedFrom, knownBelow, knownAfter}
+use Rattle.deliver.specs.Loops.{waitsAt, readyIn, leastBelow, marksBelow, Gathered, gathered, gatheredAll, appendedBelow, logBy}
+use Rattle.deliver.proofs.Gathering.{gatheredOfAll, sorts, appended-is}
+use Rattle.deliver.proofs.Waiting.{none-waits, none-ready}
+use Rattle.deliver.proofs.KnownLaws.{known-none, joined-is}
 
-pub join-is : (p : Post) (old : ℕ) (marks : List ℕ) (least : Least) (keys log : List ℕ) (n t : ℕ) → old ≡ min (p .logged) 128
-    → marks ≡ marksBelow (p .log) old → least ≡ leastBelow (p .sources) (p .last) (p .table) 8
-    → _≡_ {A = Gathered} (record { keys = keys; count = n }) (gathered (p .last) (p .stamps) marks least (record { keys = replicate 128 0; count = 0 }) 0 128)
-    → log ≡ appendedBelow (p .log) (p .logged) keys n → t ≡ min (p .logged + n) 128
-    → _≡_ {A = NewLog} (record { log = log; logged = t; count = n }) (dueLog p)
-unfolding dueLog duePlaces
-join-is p old marks least keys log n t eo em el eg ea et =
-    let s = sorts p 128 (omega arith) in
-    let g : _≡_ {A = Gathered} (record { keys = keys; count = n }) (gatheredOf p 128) = rw (em, eo, el) at eg in
-    let ec : n ≡ gatheredOf p 128 .count = ap (λ (x : Gathered). x .count) g in
-    let ek : keys ≡ gatheredOf p 128 .keys = ap (λ (x : Gathered). x .keys) g in
-    let few : n ≤ length keys = omega (arith, s .few, s .long, ap length ek, ec) in
-    let tk : take n keys ≡ sort (dueBelow p 128) = rw (ec, ek) (s .is) in
-    let ln : n ≡ length (duePlaces p)
-    = sym (length-map (sort (dueBelow p 128)) (λ (key : ℕ). key % 128) ∙ ap length (sym tk) ∙ length-take n keys ∙ omega arith)
+-- what the gathered ones leave is what the definition says
+pub log-is : (known : List ℕ) (p : Post) → logBy known (p .last) (p .stamps) (leastBelow (p .sources) (p .last) (p .table) 8) (p .log) (p .logged) ≡ dueLogFrom known p
+unfolding logBy dueLogFrom duePlacesFrom
+log-is known p =
+    let s = sorts known p in
+    let g : Gathered = gatheredOfAll known p in
+    let n : ℕ = g .count in
+    let few : n ≤ length (g .keys) = omega (arith, s .few, s .long) in
+    let ln : n ≡ length (duePlacesFrom known p)
+    = sym (length-map (sort (dueBelowFrom known p 128)) (λ (key : ℕ). key % 128) ∙ ap length (sym (s .is)) ∙ length-take n (g .keys) ∙ omega arith)
     in
-    let lg : log ≡ sets (p .log) (p .logged) (duePlaces p)
-    = ea ∙ appended-is (p .log) (p .logged) keys n few ∙ ap (λ (x : List ℕ). sets (p .log) (p .logged) (map (λ (key : ℕ). key % 128) x)) tk
+    let lg : appendedBelow (p .log) (p .logged) (g .keys) n ≡ sets (p .log) (p .logged) (duePlacesFrom known p)
+    = appended-is (p .log) (p .logged) (g .keys) n few ∙ ap (λ (x : List ℕ). sets (p .log) (p .logged) (map (λ (key : ℕ). key % 128) x)) (s .is)
     in
-    rw (lg, et, ← ln)
+    rw (lg, ← ln)
 
-pub deliver-joins : (p : Post) (b : Bool) (new : NewLog) → b ≡ isDest p (p .lane) → b ≡ true → new ≡ dueLog p
+-- `join_ready`
+pub ready-log : (known last stamps : List ℕ) (least : Least) (log : List ℕ) (logged old : ℕ) (marks keys new : List ℕ) (n t : ℕ) → old ≡ min logged 128
+    → marks ≡ marksBelow log old
+    → _≡_ {A = Gathered} (record { keys = keys; count = n }) (gathered known last stamps marks least (record { keys = replicate 128 0; count = 0 }) 0 128)
+    → new ≡ appendedBelow log logged keys n → t ≡ min (logged + n) 128
+    → _≡_ {A = NewLog} (record { log = new; logged = t; count = n }) (logBy known last stamps least log logged)
+unfolding logBy gatheredAll
+ready-log known last stamps least log logged old marks keys new n t eo em eg ea et = rw (← eo, ← em, ← eg, ea, et)
+
+-- the ways through `join`
+pub join-ready : (known : List ℕ) (p : Post) (least : Least) (new : NewLog) → least ≡ leastBelow (p .sources) (p .last) (p .table) 8
+    → new ≡ logBy known (p .last) (p .stamps) least (p .log) (p .logged)
+    → new ≡ dueLogFrom known p
+join-ready known p least new el e = rw (← log-is known p, ← el) e
+
+pub join-unready : (known : List ℕ) (p : Post) (least : Least) (b : Bool) (r : Joined) → least ≡ leastBelow (p .sources) (p .last) (p .table) 8
+    → b ≡ anyBelow (readyIn known (p .last) (p .stamps) least) 8 → b ≡ false → r ≡ record { logged = min (p .logged) 128; count = 0 }
+    → _≡_ {A = NewLog} (record { log = p .log; logged = r .logged; count = r .count }) (dueLogFrom known p)
+join-unready known p least b r el e f q = rw q (none-ready known p (rw el at (sym e ∙ f)))
+
+pub join-unwaiting : (known : List ℕ) (p : Post) (b : Bool) (r : Joined) → b ≡ anyBelow (waitsAt known (p .last)) 8 → b ≡ false
+    → r ≡ record { logged = min (p .logged) 128; count = 0 }
+    → _≡_ {A = NewLog} (record { log = p .log; logged = r .logged; count = r .count }) (dueLogFrom known p)
+join-unwaiting known p b r e f q = rw q (none-waits known p (sym e ∙ f))
+
+-- none joins: what is known stays
+pub known-same : (known log : List ℕ) (logged : ℕ) (r : Joined) → r ≡ record { logged = min logged 128; count = 0 }
+    → known ≡ knownBelow known log logged (r .logged - logged)
+unfolding knownBelow
+known-same known log logged r e = let z : min logged 128 - logged ≡ 0 = omega arith in rw (e, z)
+
+-- the ways through `deliver_in`
+pub in-joins : (known : List ℕ) (p : Post) (b : Bool) (new : NewLog) → b ≡ isDest p (p .lane) → b ≡ true → new ≡ dueLogFrom known p → new ≡ joinedFrom known p
+unfolding joinedFrom
+in-joins known p b new e s h = rw (sym e ∙ s) h
+
+pub in-passes : (known : List ℕ) (p : Post) (b : Bool) → b ≡ isDest p (p .lane) → b ≡ false
+    → _≡_ {A = NewLog} (record { log = p .log; logged = p .logged; count = 0 }) (joinedFrom known p)
+unfolding joinedFrom
+in-passes known p b e s = rw (sym e ∙ s)
+
+pub known-joins : (known : List ℕ) (p : Post) (k : List ℕ) (new : NewLog) → new ≡ joinedFrom known p
+    → k ≡ knownBelow known (new .log) (p .logged) (new .logged - p .logged) → k ≡ knownAfter known p
+unfolding knownAfter
+known-joins known p k new e h = rw (← e) h
+
+pub known-passes : (known : List ℕ) (p : Post) → _≡_ {A = NewLog} (record { log = p .log; logged = p .logged; count = 0 }) (joinedFrom known p)
+    → known ≡ knownAfter known p
+unfolding knownAfter knownBelow
+known-passes known p e = let z : p .logged - p .logged ≡ 0 = omega arith in rw (← e, z)
+
+-- `deliver`
+pub deliver-is : (p : Post) (new : NewLog) → new ≡ joinedFrom (replicate 8 0) p
     → _≡_ {A = Delivered} (record { post = withLog p (new .log) (new .logged); count = new .count }) (delivered p)
-unfolding delivered
-deliver-joins p b new e s h = rw (sym e ∙ s, ← h)
-
-pub deliver-passes : (p : Post) (b : Bool) → b ≡ isDest p (p .lane) → b ≡ false
-    → _≡_ {A = Delivered} (record { post = p; count = 0 }) (delivered p)
-unfolding delivered
-deliver-passes p b e s = rw (sym e ∙ s)
+deliver-is p new e = rw e (joined-is (replicate 8 0) p (known-none p))

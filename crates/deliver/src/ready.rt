@@ -1,0 +1,112 @@
+// Which orders are ready: taken, not known to be logged, and of a stamp up to which every source has been heard.
+use crate::Least;
+use frame::Stamp;
+ghost use mathlib.Core.Path.{_≡_};
+ghost use Prim.Native.Nat.{_<_, min};
+ghost use lib.ListN.{getD};
+ghost use Rattle.frame.specs.Lanes.{anyBelow};
+ghost use Rattle.deliver.specs.Loops.{waitsAt, upTo, readyIn, lowered, leastBelow};
+
+// Whether any lane has orders taken that are not known to be logged.
+pub(crate) fn any_waits<'a>(known: &'a [u8; 8], last: &'a [u8; 8]) -> bool
+    ensures { λ r. ⌜ r ≡ anyBelow (waitsAt (now (known .entry)) (now (last .entry))) 8 ⌝ }
+{
+    let mut waits = false;
+    for lane in 0..8u8 {
+        let logged = cells::last_taken(known, lane);
+        let taken = cells::last_taken(last, lane);
+        waits = waits | (logged.0 < taken.0);
+    }
+    waits
+}
+
+// The stamp up to which every source has been heard: the least of their entries at the last serial taken.
+pub(crate) fn least_of<'a>(sources: u8, last: &'a [u8; 8], table: &'a [u16; 136]) -> Least
+    ensures { λ r. ⌜ r ≡ leastBelow sources (now (last .entry)) (now (table .entry)) 8 ⌝ }
+{
+    let mut least = Least {
+        some: false,
+        stamp: Stamp(0),
+    };
+    for i in 0..8u8 {
+        let heard = cells::stamp_under(table, i, cells::last_taken(last, i));
+        least = lower(least, cells::has(sources, i), heard);
+    }
+    least
+}
+
+fn lower(least: Least, source: bool, heard: Stamp) -> Least
+    ensures { λ r. ⌜ r ≡ lowered least source (heard .0) ⌝ }
+{
+    if source {
+        if least.some {
+            Least {
+                some: true,
+                stamp: cells::earlier(least.stamp, heard),
+            }
+        } else {
+            Least {
+                some: true,
+                stamp: heard,
+            }
+        }
+    } else {
+        least
+    }
+}
+
+// Whether any of these has a stamp not above the least.
+pub(crate) fn any_ready<'a>(
+    known: &'a [u8; 8],
+    last: &'a [u8; 8],
+    stamps: &'a [u16; 128],
+    least: Least,
+) -> bool
+    ensures { λ r. ⌜ r ≡ anyBelow (readyIn (now (known .entry)) (now (last .entry)) (now (stamps .entry)) least) 8 ⌝ }
+{
+    let mut ready = false;
+    for lane in 0..8u8 {
+        ready = ready | ready_in(lane, known, last, stamps, least);
+    }
+    ready
+}
+
+fn ready_in<'a>(
+    lane: u8,
+    known: &'a [u8; 8],
+    last: &'a [u8; 8],
+    stamps: &'a [u16; 128],
+    least: Least,
+) -> bool
+    requires { ⌜ lane < 8 ⌝ }
+    ensures { λ r. ⌜ r ≡ readyIn (now (known .entry)) (now (last .entry)) (now (stamps .entry)) least lane ⌝ }
+{
+    let from = cells::last_taken(known, lane);
+    let taken = taken_from(last, lane);
+    let mut ready = false;
+    for k in from.0..taken {
+        let stamp = cells::stamp_at(stamps, (lane * 16 + k) as usize);
+        ready = ready | up_to(least, stamp);
+    }
+    ready
+}
+
+pub(crate) fn up_to(least: Least, stamp: Stamp) -> bool
+    ensures { λ r. ⌜ r ≡ upTo least (stamp .0) ⌝ }
+{
+    !least.some | (stamp.0 <= least.stamp.0)
+}
+
+// How many orders of a lane are taken.
+pub(crate) fn taken_from(last: &[u8; 8], lane: u8) -> u8
+    ensures { λ r. ⌜ r ≡ min (getD (now (last .entry)) lane 0) 16 ⌝ }
+{
+    let serial = cells::last_taken(last, lane);
+    at_most_16(serial.0)
+}
+
+fn at_most_16(n: u8) -> u8
+    ensures { λ r. ⌜ r ≡ min n 16 ⌝ }
+{
+    if n < 16 { n } else { 16 }
+}

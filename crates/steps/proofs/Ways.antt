@@ -4,6 +4,7 @@ use mathlib.Core.Bool.{Bool, true, false, cond}
 use mathlib.Core.List.{List}
 use Prim.Native.Nat.{ℕ, _+_, _<_, max}
 use borrow.Author.Tests.{eq-eqb, ne-eqb, leb-false}
+use lib.Dec.{eqb}
 use lib.ListN.{set}
 use Rattle.frame.specs.declared.Entry.{Entry}
 use Rattle.frame.specs.declared.Frame.{Frame}
@@ -12,14 +13,16 @@ use Rattle.frame.specs.declared.Stamp.{Stamp}
 use Rattle.frame.specs.ReadWrite.{noFrame}
 use Rattle.cells.specs.Sets.{hasLane}
 use Rattle.cells.specs.Tables.{withStamp, orderPlace}
+use Rattle.post.specs.declared.Head.{Head}
 use Rattle.post.specs.declared.Post.{Post}
-use Rattle.post.specs.Record.{isSource, lastOf, withClock, withOrders}
+use Rattle.post.specs.Record.{isSource, lastOf, postOf, withClock, withOrders}
 use Rattle.post.specs.Newest.{raisedBelow, newestEntries}
 use Rattle.post.specs.Taking.{kept, ticked, ordered, raisedPost, taken}
 use Rattle.deliver.specs.declared.Delivered.{Delivered}
 use Rattle.deliver.specs.Delivery.{delivered, stampAt}
 use Rattle.steps.specs.Refusals.{orderRefusal, orderRefusalBy, isNext, hearRefusal, hearRefusalBy}
-use Rattle.steps.specs.Steps.{orderSent, orderStep, hearTaken, otherAnswer, hearOther, hearStep, beaconStep}
+use Rattle.steps.specs.Steps.{orderSent, orderStep, hearTaken, hearOther, hearStep, beaconStep}
+use Rattle.steps.specs.InPlace.{headOf, orderTook, hearTook, passedAnswer}
 use Rattle.steps.proofs.Passed.{order-passed, hear-passed}
 use Rattle.steps.specs.declared.OrderAnswer as orders
 use Rattle.steps.specs.declared.HearAnswer as hearings
@@ -27,6 +30,15 @@ use Rattle.steps.specs.declared.BeaconAnswer as beacons
 use Rattle.steps.specs.declared.Ordered.{Ordered}
 use Rattle.steps.specs.declared.Heard.{Heard}
 use Rattle.steps.specs.declared.Beaconed.{Beaconed}
+
+-- a post is its numbers and its arrays
+pub same-post : (p : Post) (h : Head) → h ≡ headOf p → postOf h (p .last) (p .table) (p .stamps) (p .words) (p .log) ≡ p
+same-post p h e = rw e
+
+-- three facts that hold for every log
+pub each : {A B C : List ℕ → Type 0} → ((log : List ℕ) → A log × B log × C log)
+    → ((log : List ℕ) → A log) × (((log : List ℕ) → B log) × ((log : List ℕ) → C log))
+each h = (λ log. h log .0, (λ log. h log .1, λ log. h log .2))
 
 -- ---- order
 
@@ -43,26 +55,42 @@ pub take-own-is : (p : Post) (word place : ℕ) (table last stamps words : List 
 unfolding ordered kept ticked
 take-own-is p word place table last stamps words e et el es ew = rw (et, el, es, ew, e)
 
-pub send-is : (p q : Post) (word : ℕ) (entries : List Entry) (d : Delivered) → q ≡ ordered p word → entries ≡ newestEntries (q .table)
-    → d ≡ delivered q
-    → _≡_ {A = Ordered}
-    (record {
-      answer = orders.the-variants.Sent (q .serial) (q .clock) (d .count);
-      post = d .post;
-      frame = record { kind = 1; sender = p .lane; lane = p .lane; serial = q .serial; stamp = q .clock; word = word; entries = entries };
-    })
-    (orderSent p word)
+pub send-frame : (p q : Post) (word : ℕ) (entries : List Entry) → q ≡ ordered p word → entries ≡ newestEntries (q .table)
+    → _≡_ {A = Frame}
+    (record { kind = 1; sender = p .lane; lane = p .lane; serial = q .serial; stamp = q .clock; word = word; entries = entries })
+    (orderSent p word .frame)
 unfolding orderSent ordered kept ticked
-send-is p q word entries d e en ed = rw (ed, en, e)
+send-frame p q word entries e en = rw (en, e)
 
-pub order-sends : (p : Post) (word n : ℕ) (r : Ordered) → n ≡ orderRefusal p → n ≡ 0 → r ≡ orderSent p word → r ≡ orderStep p word
-unfolding orderStep
-order-sends p word n r e z h = rw (eq-eqb (orderRefusal p) 0 (sym e ∙ z)) h
+pub order-took : (p q : Post) (word n m : ℕ) (g : Frame) → n ≡ orderRefusal p → n ≡ 0 → m ≡ 0 → q ≡ ordered p word → g ≡ orderSent p word .frame
+    → (m ≡ orderRefusal p) × (q ≡ orderTook p word) × (g ≡ orderStep p word .frame)
+unfolding orderStep orderTook
+order-took p q word n m g e z em eq eg =
+    let t : eqb (orderRefusal p) 0 ≡ true = eq-eqb (orderRefusal p) 0 (sym e ∙ z) in
+    (em ∙ sym z ∙ e, rw t eq, rw t eg)
 
-pub order-refused : (p : Post) (word n : ℕ) (f : Frame) → n ≡ orderRefusal p → (n ≡ 0 → ⊥) → f ≡ noFrame
-    → _≡_ {A = Ordered} (record { answer = orders.the-variants.Refused n; post = p; frame = f }) (orderStep p word)
+pub order-stays : (p : Post) (word n : ℕ) → n ≡ orderRefusal p → (n ≡ 0 → ⊥)
+    → (n ≡ orderRefusal p) × (p ≡ orderTook p word) × (noFrame ≡ orderStep p word .frame)
+unfolding orderStep orderTook
+order-stays p word n e h =
+    let t : eqb (orderRefusal p) 0 ≡ false = rw e at (ne-eqb n 0 h) in
+    (e, rw t, rw t)
+
+-- an order by value is one in place, delivered
+pub order-sends : (p p′ q : Post) (word n : ℕ) (g : Frame) (d : Delivered) → p′ ≡ p → n ≡ orderRefusal p′ → n ≡ 0 → q ≡ orderTook p′ word
+    → g ≡ orderStep p′ word .frame → d ≡ delivered q
+    → _≡_ {A = Ordered} (record { answer = orders.the-variants.Sent (q .serial) (q .clock) (d .count); post = d .post; frame = g }) (orderStep p word)
+unfolding orderStep orderSent orderTook
+order-sends p p′ q word n g d ep e z eq eg ed =
+    let t : eqb (orderRefusal p) 0 ≡ true = eq-eqb (orderRefusal p) 0 (rw ep at (sym e ∙ z)) in
+    rw (eg, ed, eq, ep, t)
+
+pub order-refused : (p p′ : Post) (word n : ℕ) (g : Frame) → p′ ≡ p → n ≡ orderRefusal p′ → (n ≡ 0 → ⊥) → g ≡ orderStep p′ word .frame
+    → _≡_ {A = Ordered} (record { answer = orders.the-variants.Refused n; post = p; frame = g }) (orderStep p word)
 unfolding orderStep
-order-refused p word n f e h q = rw (← e, ne-eqb n 0 h, q)
+order-refused p p′ word n g ep e h eg =
+    let t : eqb (orderRefusal p) 0 ≡ false = rw (e, ep) at (ne-eqb n 0 h) in
+    rw (eg, e, ep, t)
 
 -- ---- beacon
 
@@ -115,26 +143,14 @@ taken-lane p f = go (isSource p (p .lane))
     go true = refl
     go false = refl
 
-pub take-is : (p q : Post) (f : Frame) (entries : List Entry) (d : Delivered) → q ≡ taken p f → entries ≡ newestEntries (q .table)
-    → d ≡ delivered q
-    → _≡_ {A = Heard}
-    (record {
-      answer = hearings.the-variants.Taken (d .count);
-      post = d .post;
-      frame = record { kind = 1; sender = p .lane; lane = f .lane; serial = f .serial; stamp = f .stamp; word = f .word; entries = entries };
-    })
-    (hearTaken p f)
+pub take-frame : (p q : Post) (f : Frame) (entries : List Entry) → q ≡ taken p f → entries ≡ newestEntries (q .table)
+    → _≡_ {A = Frame}
+    (record { kind = 1; sender = p .lane; lane = f .lane; serial = f .serial; stamp = f .stamp; word = f .word; entries = entries })
+    (hearTaken p f .frame)
 unfolding hearTaken
-take-is p q f entries d e en ed =
+take-frame p q f entries e en =
     let l : taken p f .lane ≡ p .lane = taken-lane p f in
-    rw (ed, en, e, l)
-
-pub pass-is : (p : Post) (f : Frame) (t : List ℕ) (d : Delivered) (a : hearings.HearAnswer) (g : Frame) (last : ℕ)
-    → t ≡ raisedBelow (p .table) (f .entries) 8 → d ≡ delivered (withClock p (p .clock .0) (p .serial .0) t)
-    → a ≡ otherAnswer f last (d .count) → g ≡ noFrame → last ≡ lastOf p (f .lane)
-    → _≡_ {A = Heard} (record { answer = a; post = d .post; frame = g }) (hearOther p f)
-unfolding hearOther raisedPost
-pass-is p f t d a g last et ed ea eg el = rw (ea, el, eg, ed, et)
+    rw (en, e, l)
 
 -- the numbers that a hearing is judged by are the post's
 judged-by : (p : Post) (f : Frame) (last : Serial) (place : ℕ) (before : Stamp) (n : ℕ) → last ≡ record { 0 = lastOf p (f .lane) }
@@ -143,29 +159,58 @@ judged-by : (p : Post) (f : Frame) (last : Serial) (place : ℕ) (before : Stamp
     → n ≡ hearRefusal p f
 judged-by p f last place before n el ep eb e = rw (eb, ep, el) at e
 
-pub hear-takes : (p : Post) (f : Frame) (last : Serial) (place : ℕ) (before : Stamp) (n : ℕ) (b : Bool) (r : Heard)
+pub hear-took : (p q : Post) (f : Frame) (last : Serial) (place : ℕ) (before : Stamp) (n m : ℕ) (b : Bool) (g : Frame)
     → last ≡ record { 0 = lastOf p (f .lane) } → place ≡ orderPlace (f .lane) (last .0) → before ≡ record { 0 = stampAt p place }
     → n ≡ hearRefusalBy (p .lane) (p .posts) (p .sources) (p .serial .0) (p .clock .0) (last .0) (before .0) f → n ≡ 0
-    → b ≡ isNext f (last .0) → b ≡ true → r ≡ hearTaken p f
-    → r ≡ hearStep p f
-unfolding hearStep
-hear-takes p f last place before n b r el ep eb e z t s h =
+    → b ≡ isNext f (last .0) → b ≡ true → m ≡ 0 → q ≡ taken p f → g ≡ hearTaken p f .frame
+    → (m ≡ hearRefusal p f) × (q ≡ hearTook p f) × (g ≡ hearStep p f .frame)
+unfolding hearStep hearTook
+hear-took p q f last place before n m b g el ep eb e z t s em eq eg =
+    let j : n ≡ hearRefusal p f = judged-by p f last place before n el ep eb e in
+    let y : eqb (hearRefusal p f) 0 ≡ true = eq-eqb (hearRefusal p f) 0 (sym j ∙ z) in
     let next : isNext f (lastOf p (f .lane)) ≡ true = rw el at (sym t ∙ s) in
-    rw (eq-eqb (hearRefusal p f) 0 (sym (judged-by p f last place before n el ep eb e) ∙ z), next) h
+    (em ∙ sym z ∙ j, rw (y, next) eq, rw (y, next) eg)
 
-pub hear-passes : (p : Post) (f : Frame) (last : Serial) (place : ℕ) (before : Stamp) (n : ℕ) (b : Bool) (r : Heard)
+pub hear-raised : (p : Post) (f : Frame) (last : Serial) (place : ℕ) (before : Stamp) (n : ℕ) (b : Bool) (table : List ℕ)
     → last ≡ record { 0 = lastOf p (f .lane) } → place ≡ orderPlace (f .lane) (last .0) → before ≡ record { 0 = stampAt p place }
     → n ≡ hearRefusalBy (p .lane) (p .posts) (p .sources) (p .serial .0) (p .clock .0) (last .0) (before .0) f → n ≡ 0
-    → b ≡ isNext f (last .0) → b ≡ false → (last .0 ≡ lastOf p (f .lane) → r ≡ hearOther p f)
-    → r ≡ hearStep p f
-unfolding hearStep
-hear-passes p f last place before n b r el ep eb e z t s h =
+    → b ≡ isNext f (last .0) → b ≡ false → table ≡ raisedBelow (p .table) (f .entries) 8
+    → (0 ≡ hearRefusal p f) × (withClock p (p .clock .0) (p .serial .0) table ≡ hearTook p f) × (noFrame ≡ hearStep p f .frame)
+unfolding hearStep hearOther hearTook raisedPost
+hear-raised p f last place before n b table el ep eb e z t s et =
+    let j : n ≡ hearRefusal p f = judged-by p f last place before n el ep eb e in
+    let y : eqb (hearRefusal p f) 0 ≡ true = eq-eqb (hearRefusal p f) 0 (sym j ∙ z) in
     let next : isNext f (lastOf p (f .lane)) ≡ false = rw el at (sym t ∙ s) in
-    rw (eq-eqb (hearRefusal p f) 0 (sym (judged-by p f last place before n el ep eb e) ∙ z), next) (h (ap (λ (x : Serial). x .0) el))
+    (sym z ∙ j, rw (y, next, et), rw (y, next))
 
-pub hear-refused : (p : Post) (f : Frame) (last : Serial) (place : ℕ) (before : Stamp) (n : ℕ) (g : Frame)
+pub hear-stays : (p : Post) (f : Frame) (last : Serial) (place : ℕ) (before : Stamp) (n : ℕ)
     → last ≡ record { 0 = lastOf p (f .lane) } → place ≡ orderPlace (f .lane) (last .0) → before ≡ record { 0 = stampAt p place }
-    → n ≡ hearRefusalBy (p .lane) (p .posts) (p .sources) (p .serial .0) (p .clock .0) (last .0) (before .0) f → (n ≡ 0 → ⊥) → g ≡ noFrame
+    → n ≡ hearRefusalBy (p .lane) (p .posts) (p .sources) (p .serial .0) (p .clock .0) (last .0) (before .0) f → (n ≡ 0 → ⊥)
+    → (n ≡ hearRefusal p f) × (p ≡ hearTook p f) × (noFrame ≡ hearStep p f .frame)
+unfolding hearStep hearTook
+hear-stays p f last place before n el ep eb e h =
+    let j : n ≡ hearRefusal p f = judged-by p f last place before n el ep eb e in
+    let y : eqb (hearRefusal p f) 0 ≡ false = rw j at (ne-eqb n 0 h) in
+    (j, rw y, rw y)
+
+-- a hearing by value is one in place, delivered
+pub hear-passes : (p p′ q : Post) (f : Frame) (n : ℕ) (g : Frame) (d : Delivered) (last : Serial) (a : hearings.HearAnswer)
+    → p′ ≡ p → n ≡ hearRefusal p′ f → n ≡ 0 → q ≡ hearTook p′ f → g ≡ hearStep p′ f .frame → d ≡ delivered q
+    → last ≡ record { 0 = lastOf p (f .lane) } → a ≡ passedAnswer f (last .0) (d .count)
+    → _≡_ {A = Heard} (record { answer = a; post = d .post; frame = g }) (hearStep p f)
+unfolding hearStep hearTaken hearOther hearTook
+hear-passes p p′ q f n g d last a ep e z eq eg ed el ea = go (isNext f (lastOf p (f .lane))) refl
+  where
+    y : eqb (hearRefusal p f) 0 ≡ true
+    y = eq-eqb (hearRefusal p f) 0 (rw ep at (sym e ∙ z))
+
+    go : (t : Bool) → isNext f (lastOf p (f .lane)) ≡ t → _≡_ {A = Heard} (record { answer = a; post = d .post; frame = g }) (hearStep p f)
+    go true s = rw (ea, eg, ed, eq, el, ep, y, s)
+    go false s = rw (ea, eg, ed, eq, el, ep, y, s)
+
+pub hear-refused : (p p′ : Post) (f : Frame) (n : ℕ) (g : Frame) → p′ ≡ p → n ≡ hearRefusal p′ f → (n ≡ 0 → ⊥) → g ≡ hearStep p′ f .frame
     → _≡_ {A = Heard} (record { answer = hearings.the-variants.Refused n; post = p; frame = g }) (hearStep p f)
 unfolding hearStep
-hear-refused p f last place before n g el ep eb e h q = rw (← judged-by p f last place before n el ep eb e, ne-eqb n 0 h, q)
+hear-refused p p′ f n g ep e h eg =
+    let y : eqb (hearRefusal p f) 0 ≡ false = rw (e, ep) at (ne-eqb n 0 h) in
+    rw (eg, e, ep, y)

@@ -1,20 +1,24 @@
 // The hear step: its refusals 21, 24, 26 and 28 to 30, and what it does where none of them holds.
 use crate::HearAnswer;
-use crate::Heard;
+use crate::Took;
 use frame::Entry;
 use frame::Frame;
 use frame::Serial;
 use frame::Stamp;
+use post::Head;
 use post::Post;
 ghost use mathlib.Core.Path.{_≡_};
 ghost use mathlib.Core.Bool.{true, not, _&&_};
-ghost use Prim.Native.Nat.{_+_, _<_, max};
+ghost use mathlib.Core.List.{List};
+ghost use Prim.Native.Nat.{ℕ, _+_, _<_, max};
 ghost use lib.ListN.{getD};
 ghost use Rattle.cells.specs.Sets.{hasLane};
 ghost use Rattle.frame.specs.Layout.{noEntry};
+ghost use Rattle.post.specs.Record.{postOf};
 ghost use Rattle.post.specs.Taking.{taken};
 ghost use Rattle.steps.specs.Refusals.{isNext, clockPasses, hasStamp, strangeEntries, strange, notAbove, beyondOwn, hearRefusalBy};
-ghost use Rattle.steps.specs.Steps.{hearTaken, otherAnswer, hearOther};
+ghost use Rattle.steps.specs.Steps.{hearTaken, otherAnswer};
+ghost use Rattle.steps.specs.InPlace.{passedAnswer};
 
 // Whether the frame's order is the next of its lane.
 pub(crate) fn is_next(f: Frame, last: Serial) -> bool
@@ -110,71 +114,78 @@ fn own_entry(entries: [Entry; 8], lane: u8) -> Entry
     }
 }
 
-// The order is taken, broadcast under the post's own lane as sender, and the post delivers.
-pub(crate) fn take(p: Post, f: Frame) -> Heard
-    requires { ⌜ (hasLane (p .sources) (p .lane) ≡ true → max (p .clock .0) (f .stamp .0) < 65535) ⌝ }
-    ensures { λ r. ⌜ r ≡ hearTaken p f ⌝ }
+// The order is taken, and broadcast under the post's own lane as sender.
+pub(crate) fn take(
+    h: Head,
+    f: Frame,
+    last: &mut [u8; 8],
+    table: &mut [u16; 136],
+    stamps: &mut [u16; 128],
+    words: &mut [u16; 128],
+) -> Took
+    requires { ⌜ (hasLane (h .sources) (h .lane) ≡ true → max (h .clock .0) (f .stamp .0) < 65535) ⌝ }
+    ensures { λ r. ⌜ r .number ≡ 0 ⌝ }
+    ensures post { λ r. ⌜ ((log : List ℕ) → postOf (r .head) (now (last .exit)) (now (table .exit)) (now (stamps .exit)) (now (words .exit)) log ≡ taken (postOf h (now (last .entry)) (now (table .entry)) (now (stamps .entry)) (now (words .entry)) log) f) ⌝ }
+    ensures frame { λ r. ⌜ ((log : List ℕ) → r .frame ≡ hearTaken (postOf h (now (last .entry)) (now (table .entry)) (now (stamps .entry)) (now (words .entry)) log) f .frame) ⌝ }
 {
-    let next = take_in(p, f);
-    let entries = post::newest_entries(&next.table);
+    let head = take_in(h, f, last, table, stamps, words);
+    let entries = post::newest_entries(table);
     let serial = f.serial;
     let stamp = f.stamp;
     let frame = Frame {
         kind: Frame::ORDER,
-        sender: p.lane,
+        sender: h.lane,
         lane: f.lane,
         serial: serial,
         stamp: stamp,
         word: f.word,
         entries: entries,
     };
-    let done = deliver::deliver(next);
-    let post = done.post;
-    Heard {
-        answer: HearAnswer::Taken(done.count),
-        post: post,
+    Took {
+        number: 0,
+        head: head,
         frame: frame,
     }
 }
 
 // Parts 1 and 3: the entries raise the table, the order is kept, and the clock of a source passes its stamp.
-fn take_in(p: Post, f: Frame) -> Post
-    requires { ⌜ (hasLane (p .sources) (p .lane) ≡ true → max (p .clock .0) (f .stamp .0) < 65535) ⌝ }
-    ensures { λ r. ⌜ r ≡ taken p f ⌝ }
+fn take_in(
+    h: Head,
+    f: Frame,
+    last: &mut [u8; 8],
+    table: &mut [u16; 136],
+    stamps: &mut [u16; 128],
+    words: &mut [u16; 128],
+) -> Head
+    requires { ⌜ (hasLane (h .sources) (h .lane) ≡ true → max (h .clock .0) (f .stamp .0) < 65535) ⌝ }
+    ensures { λ r. ⌜ ((log : List ℕ) → postOf r (now (last .exit)) (now (table .exit)) (now (stamps .exit)) (now (words .exit)) log ≡ taken (postOf h (now (last .entry)) (now (table .entry)) (now (stamps .entry)) (now (words .entry)) log) f) ⌝ }
 {
     let place = cells::order_place(f.lane, f.serial);
     let entries = f.entries;
-    let mut next = p;
-    post::raise_all(&mut next.table, entries);
-    cells::put_last(&mut next.last, f.lane, f.serial);
-    cells::put_stamp_at(&mut next.stamps, place, f.stamp);
-    cells::put_word_at(&mut next.words, place, f.word);
-    if cells::has(p.sources, p.lane) {
-        let reached = cells::later(p.clock, f.stamp);
+    post::raise_all(table, entries);
+    cells::put_last(last, f.lane, f.serial);
+    cells::put_stamp_at(stamps, place, f.stamp);
+    cells::put_word_at(words, place, f.word);
+    if cells::has(h.sources, h.lane) {
+        let reached = cells::later(h.clock, f.stamp);
         let clock = Stamp(reached.0 + 1);
+        let mut next = h;
         next.clock = clock;
-        cells::put_stamp_under(&mut next.table, p.lane, p.serial, clock);
+        cells::put_stamp_under(table, h.lane, h.serial, clock);
         next
     } else {
-        next
+        h
     }
 }
 
-// Parts 1 and 4 alone: again, early or a beacon.
-pub(crate) fn pass(p: Post, f: Frame, last: Serial) -> Heard
-    ensures { λ r. ⌜ (last .0 ≡ getD (p .last) (f .lane) 0 → r ≡ hearOther p f) ⌝ }
+// What a hearing answers that is not refused.
+pub(crate) fn answer(f: Frame, last: Serial, count: u8) -> HearAnswer
+    ensures { λ r. ⌜ r ≡ passedAnswer f (last .0) count ⌝ }
 {
-    let entries = f.entries;
-    let mut raised = p;
-    post::raise_all(&mut raised.table, entries);
-    let done = deliver::deliver(raised);
-    let answer = other(f, last, done.count);
-    let post = done.post;
-    let none = Frame::none();
-    Heard {
-        answer: answer,
-        post: post,
-        frame: none,
+    if is_next(f, last) {
+        HearAnswer::Taken(count)
+    } else {
+        other(f, last, count)
     }
 }
 

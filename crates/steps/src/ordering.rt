@@ -1,12 +1,14 @@
 // The order step: its refusals 21 to 24, and what it does where none of them holds.
-use crate::OrderAnswer;
-use crate::Ordered;
+use crate::Took;
 use frame::Frame;
 use frame::Serial;
 use frame::Stamp;
+use post::Head;
 use post::Post;
 ghost use mathlib.Core.Path.{_≡_};
-ghost use Prim.Native.Nat.{_<_};
+ghost use mathlib.Core.List.{List};
+ghost use Prim.Native.Nat.{ℕ, _<_};
+ghost use Rattle.post.specs.Record.{postOf};
 ghost use Rattle.post.specs.Taking.{ordered};
 ghost use Rattle.steps.specs.Refusals.{orderRefusalBy};
 ghost use Rattle.steps.specs.Steps.{orderSent};
@@ -21,51 +23,61 @@ pub(crate) fn refusal(lane: u8, posts: u8, sources: u8, serial: Serial, clock: S
     cells::pick(!cells::has(posts, lane), 21, number)
 }
 
-// The post takes its own order, broadcasts it and delivers.
-pub(crate) fn send(p: Post, word: u16) -> Ordered
-    requires { ⌜ (p .clock .0 < 65535) × (p .serial .0 < 16) ⌝ }
-    ensures { λ r. ⌜ r ≡ orderSent p word ⌝ }
+// The post takes its own order and broadcasts it.
+pub(crate) fn send(
+    h: Head,
+    word: u16,
+    last: &mut [u8; 8],
+    table: &mut [u16; 136],
+    stamps: &mut [u16; 128],
+    words: &mut [u16; 128],
+) -> Took
+    requires { ⌜ (h .clock .0 < 65535) × (h .serial .0 < 16) ⌝ }
+    ensures { λ r. ⌜ r .number ≡ 0 ⌝ }
+    ensures post { λ r. ⌜ ((log : List ℕ) → postOf (r .head) (now (last .exit)) (now (table .exit)) (now (stamps .exit)) (now (words .exit)) log ≡ ordered (postOf h (now (last .entry)) (now (table .entry)) (now (stamps .entry)) (now (words .entry)) log) word) ⌝ }
+    ensures frame { λ r. ⌜ ((log : List ℕ) → r .frame ≡ orderSent (postOf h (now (last .entry)) (now (table .entry)) (now (stamps .entry)) (now (words .entry)) log) word .frame) ⌝ }
 {
-    let next = take_own(p, word);
-    let serial = next.serial;
-    let clock = next.clock;
-    let entries = post::newest_entries(&next.table);
+    let head = take_own(h, word, last, table, stamps, words);
+    let entries = post::newest_entries(table);
+    let serial = head.serial;
+    let clock = head.clock;
     let frame = Frame {
         kind: Frame::ORDER,
-        sender: p.lane,
-        lane: p.lane,
+        sender: h.lane,
+        lane: h.lane,
         serial: serial,
         stamp: clock,
         word: word,
         entries: entries,
     };
-    let done = deliver::deliver(next);
-    let post = done.post;
-    Ordered {
-        answer: OrderAnswer::Sent {
-            serial: serial,
-            stamp: clock,
-            count: done.count,
-        },
-        post: post,
+    Took {
+        number: 0,
+        head: head,
         frame: frame,
     }
 }
 
 // Clock and own serial rise, and the order is kept.
-fn take_own(p: Post, word: u16) -> Post
-    requires { ⌜ (p .clock .0 < 65535) × (p .serial .0 < 16) ⌝ }
-    ensures { λ r. ⌜ r ≡ ordered p word ⌝ }
+fn take_own(
+    h: Head,
+    word: u16,
+    last: &mut [u8; 8],
+    table: &mut [u16; 136],
+    stamps: &mut [u16; 128],
+    words: &mut [u16; 128],
+) -> Head
+    requires { ⌜ (h .clock .0 < 65535) × (h .serial .0 < 16) ⌝ }
+    ensures { λ r. ⌜ ((log : List ℕ) → postOf r (now (last .exit)) (now (table .exit)) (now (stamps .exit)) (now (words .exit)) log ≡ ordered (postOf h (now (last .entry)) (now (table .entry)) (now (stamps .entry)) (now (words .entry)) log) word) ⌝ }
 {
-    let clock = Stamp(p.clock.0 + 1);
-    let serial = Serial(p.serial.0 + 1);
-    let place = cells::order_place(p.lane, serial);
-    let mut next = p;
+    let clock = Stamp(h.clock.0 + 1);
+    let serial = Serial(h.serial.0 + 1);
+    let place = cells::order_place(h.lane, serial);
+    let mut next = h;
     next.clock = clock;
     next.serial = serial;
-    cells::put_stamp_under(&mut next.table, p.lane, serial, clock);
-    cells::put_last(&mut next.last, p.lane, serial);
-    cells::put_stamp_at(&mut next.stamps, place, clock);
-    cells::put_word_at(&mut next.words, place, word);
+    cells::put_stamp_under(table, h.lane, serial, clock);
+    cells::put_last(last, h.lane, serial);
+    cells::put_stamp_at(stamps, place, clock);
+    cells::put_word_at(words, place, word);
     next
 }

@@ -1,16 +1,13 @@
-use Rattle.steps.proofs.Ways.{can-rise, order-sends, order-refused}
-use mathlib.Core.Path.{sym, _∙_}
+use Rattle.steps.proofs.Ways.{same-post, order-sends, order-refused}
+use mathlib.Core.Path.{_∙_}
 use Rattle.steps.proofs.order.Statement.{statement}
 use Rattle.steps.proofs.order.Tie as tie
 
-send-requires : tie.Need-send-requires
-send-requires c κs = can-rise _ _ _ _ _ (sym (c .before .refusal .ensures) ∙ c .if1 .taken)
-
 returns : tie.Need-returns
-returns c = order-sends _ _ _ _ (c .before .before .refusal .ensures) (c .before .if1 .taken) (c .send .ensures)
+returns c = order-sends (c .before .before .before .before .before .before .before .before .before .before .before .before .before .before .before .before .before .before .before .before .args .p) _ _ _ _ _ _ (same-post (c .before .before .before .before .before .before .before .before .before .before .before .before .before .before .before .before .before .before .before .before .args .p) _ (c .before .before .before .before .before .before .before .before .before .before .before .before .before .before .before .before .before .before .before .head-of .ensures)) (c .before .before .before .before .before .before .before .before .before .before .order-in .ensures .0 (c .before .before .before .before .before .before .before .before .before .before .before .before .before .before .before .before .before .before .before .before .args .p .log)) (c .before .before .before .before .before .before .if1 .taken) (c .before .before .before .before .before .before .before .before .before .before .order-in .ensures .1 .0 (c .before .before .before .before .before .before .before .before .before .before .before .before .before .before .before .before .before .before .before .before .args .p .log)) (c .before .before .before .before .before .before .before .before .before .before .order-in .ensures .1 .1 (c .before .before .before .before .before .before .before .before .before .before .before .before .before .before .before .before .before .before .before .before .args .p .log)) (rw (c .before .before .before .before .post-of .ensures) at (c .before .before .before .deliver .ensures))
 
 returns-2 : tie.Need-returns-2
-returns-2 c = order-refused _ _ _ _ (c .before .before .refusal .ensures) (c .before .if1 .left) (c .none .ensures)
+returns-2 c = order-refused (c .before .before .before .before .before .before .before .before .before .before .before .before .before .before .args .p) _ _ _ _ (same-post (c .before .before .before .before .before .before .before .before .before .before .before .before .before .before .args .p) _ (c .before .before .before .before .before .before .before .before .before .before .before .before .before .head-of .ensures)) (c .before .before .before .before .order-in .ensures .0 (c .before .before .before .before .before .before .before .before .before .before .before .before .before .before .args .p .log)) (c .if1 .left) (c .before .before .before .before .order-in .ensures .1 .1 (c .before .before .before .before .before .before .before .before .before .before .before .before .before .before .args .p .log))
 
 pub order-spec : {M : Type 1} → statement M
-order-spec = tie.close (tie.spec (λ c κs. tt) send-requires (λ c κs. tt) returns returns-2)
+order-spec = tie.close (tie.spec (λ c κs. tt) (λ c κs. tt) (λ c κs. tt) (λ c κs. tt) returns returns-2)

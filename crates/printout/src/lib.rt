@@ -1,13 +1,15 @@
 // The lines of the printout into a lent buffer. The contracts cite Texts.antt of the crate `meaning`; those of private
 // functions cite specs/Items.antt besides.
-use post::Post;
+use post::Head;
 use text::put_labelled;
 use text::put_text;
-use yard::Yard;
 ghost use mathlib.Core.Path.{_≡_};
+ghost use mathlib.Core.List.{List};
+ghost use Prim.Native.Nat.{ℕ};
 ghost use lib.ListN.{take};
+ghost use Rattle.post.specs.Record.{postOf};
 ghost use Rattle.text.specs.Writing.{out, wrote};
-ghost use Rattle.meaning.specs.Texts.{badText, refusedText, postText, postsText};
+ghost use Rattle.meaning.specs.Texts.{badText, refusedText, postText};
 ghost use Rattle.printout.specs.Items.{refusalOf, headOf, itemOf, itemsOf};
 
 // `(bad LINE NUMBER)`
@@ -33,26 +35,19 @@ fn put_refusal(buffer: &mut [u8], at: usize, label: &[u8], line: u16, number: u8
     put_text(buffer, a, b")\n")
 }
 
-// The posts of a yard, a line each in rising lane order.
-pub fn put_posts(buffer: &mut [u8], at: usize, y: Yard) -> usize
-    ensures { λ r. ⌜ out (now (buffer .exit)) r ≡ wrote (out (now (buffer .entry)) at) (postsText y 8) ⌝ }
+// `(post LANE (clock CLOCK) (sent SENT) (log ITEMS))`, of a post from its numbers and the arrays that are printed.
+pub fn put_post<'a>(
+    buffer: &mut [u8],
+    at: usize,
+    h: Head,
+    stamps: &'a [u16; 128],
+    words: &'a [u16; 128],
+    log: &'a [u8; 128],
+) -> usize
+    ensures { λ r. ⌜ ((last table : List ℕ) → out (now (buffer .exit)) r ≡ wrote (out (now (buffer .entry)) at) (postText (h .lane) (postOf h last table (now (stamps .entry)) (now (words .entry)) (now (log .entry))))) ⌝ }
 {
-    let mut a = at;
-    for lane in 0..Post::LANES {
-        if cells::has(y.present, lane) {
-            let post = y.posts[lane as usize];
-            a = put_post(buffer, a, lane, post);
-        }
-    }
-    a
-}
-
-// `(post LANE (clock CLOCK) (sent SENT) (log ITEMS))`
-fn put_post(buffer: &mut [u8], at: usize, lane: u8, p: Post) -> usize
-    ensures { λ r. ⌜ out (now (buffer .exit)) r ≡ wrote (out (now (buffer .entry)) at) (postText lane p) ⌝ }
-{
-    let a = put_head(buffer, at, lane, p.clock.0, p.serial.0);
-    let a = put_items(buffer, a, p.logged as usize, &p.log, &p.stamps, &p.words);
+    let a = put_head(buffer, at, h.lane, h.clock.0, h.serial.0);
+    let a = put_items(buffer, a, h.logged as usize, log, stamps, words);
     put_text(buffer, a, b"))\n")
 }
 

@@ -1,3 +1,4 @@
-pub mod StepWays
+pub mod RowLaws
+pub mod RowSteps
 pub mod LineLaws
 pub mod ScriptWays

@@ -1,6 +1,7 @@
 // Runs a script over a fresh yard and the air lent for it, and prints into the output lent for it. The contract cites
 // specs/Run.antt; meaning/specs/Script.antt says what a script prints.
 mod line_steps;
+mod row_steps;
 
 use yard::Yard;
 ghost use mathlib.Core.Path.{_≡_};
@@ -11,6 +12,19 @@ ghost use Rattle.lines.specs.Lines.{judged};
 ghost use Rattle.meaning.specs.Script.{worldAfter, refusedLines, scriptWorld, scriptText};
 ghost use Rattle.script.specs.Run.{bytesPrinted, outputAfter, airLeft};
 ghost use Rattle.script.specs.Lines.{world, rest};
+
+// The lanes that have a post, the sources and the destinations among them.
+pub(crate) struct Sets {
+    pub present: u8,
+    pub sources: u8,
+    pub dests: u8,
+}
+
+// The number that a step is refused by, or 0, and how many frames are on the air.
+pub(crate) struct Counted {
+    pub number: u8,
+    pub frames: u16,
+}
 
 // The number that a line's step is refused by, or 0, and the yard after it.
 pub(crate) struct Stepped {

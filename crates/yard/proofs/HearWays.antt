@@ -28,7 +28,7 @@ unfolding stretchOf stretchRefusal
 on-air-read air frames k got e a o = rw (a, o) at e
 
 -- 13, 21, 25, then what reading refuses
-hear-judged : (air : List ℕ) (p : Post) (frames k m n : ℕ) (got : FrameRead) → got ≡ readOf (stretchOf air frames k)
+pub hear-judged : (air : List ℕ) (p : Post) (frames k m n : ℕ) (got : FrameRead) → got ≡ readOf (stretchOf air frames k)
     → m ≡ absentRefusal air (p .lane) (p .posts) frames k → n ≡ cond (eqb m 0) (got .refusal) m
     → (n ≡ stopsHearing air p frames k) × (n ≡ 0 → got .frame ≡ frameAt air k)
 unfolding absentRefusal readOf

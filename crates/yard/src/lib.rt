@@ -1,6 +1,6 @@
 // The yard: up to eight posts and the lent air. Every step is judged for any yard and any air, and a refusal leaves both as they were.
 // The contracts cite specs/Singles.antt.
-mod parts;
+pub mod parts;
 
 use air;
 use post::Post;

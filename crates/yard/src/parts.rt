@@ -40,7 +40,7 @@ pub(crate) fn fresh_yard(present: u8, sources: u8, dests: u8) -> Yard
 }
 
 // The frame that the air gives back for k, read.
-pub(crate) fn read_frame(air: &[u8], frames: u16, k: usize) -> FrameRead
+pub fn read_frame(air: &[u8], frames: u16, k: usize) -> FrameRead
     ensures { λ r. ⌜ r ≡ readOf (stretchOf (now (air .entry)) frames k) ⌝ }
 {
     let part = air::stretch(air, frames as usize, k);
@@ -48,7 +48,7 @@ pub(crate) fn read_frame(air: &[u8], frames: u16, k: usize) -> FrameRead
 }
 
 // 13, 21 or 25 where frame k is not on the air, or 0.
-pub(crate) fn absent(air: &[u8], lane: u8, posts: u8, frames: u16, k: usize) -> u8
+pub fn absent(air: &[u8], lane: u8, posts: u8, frames: u16, k: usize) -> u8
     ensures { λ r. ⌜ r ≡ absentRefusal (now (air .entry)) lane posts frames k ⌝ }
 {
     let number = air::refusal(air, frames as usize, k);
@@ -56,7 +56,7 @@ pub(crate) fn absent(air: &[u8], lane: u8, posts: u8, frames: u16, k: usize) -> 
 }
 
 // Puts f on the air as its next frame; returns how many there are then.
-pub(crate) fn broadcast(air: &mut [u8], frames: u16, f: Frame) -> u16
+pub fn broadcast(air: &mut [u8], frames: u16, f: Frame) -> u16
     ensures { λ r. ⌜ r ≡ framesAfter (now (air .entry)) frames f ⌝ }
     ensures bytes { λ _. ⌜ now (air .exit) ≡ airWith (now (air .entry)) frames f ⌝ }
 {
@@ -66,7 +66,7 @@ pub(crate) fn broadcast(air: &mut [u8], frames: u16, f: Frame) -> u16
 
 // Where an order was broadcast as frame `before`, that is the number of its first frame. The table has the shape of the words:
 // a number of 16 bits at each order's place.
-pub(crate) fn note_first(first: &mut [u16; 128], lane: u8, serial: Serial, before: u16, after: u16)
+pub fn note_first(first: &mut [u16; 128], lane: u8, serial: Serial, before: u16, after: u16)
     ensures { λ _. ⌜ now (first .exit) ≡ cond (ltb before after) (set (now (first .entry)) (orderPlace lane (serial .0)) before) (now (first .entry)) ⌝ }
 {
     if before < after {

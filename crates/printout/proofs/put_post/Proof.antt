@@ -1,4 +1,5 @@
 use Rattle.text.proofs.Laws.{next}
+use Rattle.post.specs.Record.{postOf}
 use Rattle.roll.specs.Logs.{ordersLogged}
 use Rattle.meaning.specs.Texts.{itemsText, postText}
 use borrow.Author.Needs.{needs}
@@ -7,12 +8,8 @@ use Rattle.printout.proofs.put_post.Tie as tie
 
 returns : tie.Need-returns
 unfolding postText
-returns c =
-    let t = c .before .before in
-    let i = t .before .before .before .before .before in
-    let h = i .before .before .before .before .before .before .before .before .before in
-    let items = itemsText (ordersLogged (h .before .before .before .args .t4)) in
-    next _ _ _ (next _ _ items (h .put-head .ensures) (i .put-items .ensures)) (t .put-text .ensures)
+returns c = λ last table.
+    next _ _ _ (next _ _ (itemsText (ordersLogged (postOf (c .before .before .before .before .before .before .before .before .before .before .before .before .before .before .before .before .args .h) last table (c .before .before .before .before .before .before .before .before .before .before .before .before .before .before .before .before .args .stamps .now) (c .before .before .before .before .before .before .before .before .before .before .before .before .before .before .before .before .args .words .now) (c .before .before .before .before .before .before .before .before .before .before .before .before .before .before .before .before .args .log .now)))) (c .before .before .before .before .before .before .before .before .before .before .before .before .before .put-head .ensures) (c .before .before .before .before .before .before .before .put-items .ensures)) (c .before .before .put-text .ensures)
 
 pub put-post-spec : {M : Type 1} → statement M
 put-post-spec = tie.close (tie.spec (λ c κs. tt) (λ c. search needs) (λ c κs. tt) (λ c. search needs) (λ c κs. tt) (λ c. search needs) returns)

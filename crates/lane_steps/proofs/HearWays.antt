@@ -1,0 +1,66 @@
+-- The ways through `hear`. Assumes nothing.
+use mathlib.Core.Path.{_≡_, refl, sym, ap, _∙_}
+use mathlib.Core.Bool.{Bool, true, false, cond}
+use mathlib.Core.List.{List}
+use Prim.Native.Nat.{ℕ}
+use lib.Dec.{eqb}
+use borrow.Author.Tests.{ne-eqb}
+use Rattle.frame.specs.declared.Frame.{Frame}
+use Rattle.frame.specs.declared.FrameRead.{FrameRead}
+use Rattle.frame.specs.ReadWrite.{readOf}
+use Rattle.air.specs.Air.{stretchOf, airWith}
+use Rattle.post.specs.declared.Post.{Post}
+use Rattle.steps.specs.Refusals.{hearRefusal}
+use Rattle.steps.specs.Steps.{hearStep}
+use Rattle.steps.specs.InPlace.{hearTook}
+use Rattle.steps.proofs.InPlaceLaws.{hear-number}
+use Rattle.yard.specs.declared.PostHeard.{PostHeard}
+use Rattle.yard.specs.Singles.{framesAfter, frameAt, postHears, postHearsAir}
+use Rattle.yard.specs.Parts.{absentRefusal}
+use Rattle.yard.proofs.HearWays.{hear-judged, post-hear-refused, post-hear-runs}
+use Rattle.lane_steps.specs.InPlace.{Left, finished, hearStopped, heardIn}
+
+-- no air, no such frame, or bytes that are no frame
+pub hear-stopped : (known air : List ℕ) (p : Post) (frames k m n : ℕ) (got : FrameRead) → got ≡ readOf (stretchOf air frames k)
+    → m ≡ absentRefusal air (p .lane) (p .posts) frames k → n ≡ cond (eqb m 0) (got .refusal) m → (n ≡ 0 → ⊥)
+    → _≡_ {A = Left} (record { number = n; post = p; known = known; frames = frames; air = air }) (heardIn known air p frames k)
+unfolding heardIn
+hear-stopped known air p frames k m n got eg em en h =
+    let s = post-hear-refused air p frames k m n got eg em en h in
+    rw (← s .0, ← s .1, ne-eqb n 0 h)
+
+module _ (known air : List ℕ) (p q : Post) (frames k m n t : ℕ) (got : FrameRead) (f : Frame)
+    (eg : got ≡ readOf (stretchOf air frames k)) (em : m ≡ absentRefusal air (p .lane) (p .posts) frames k)
+    (en : n ≡ cond (eqb m 0) (got .refusal) m) (z : n ≡ 0) (et : t ≡ hearRefusal p (got .frame)) (eq : q ≡ hearTook p (got .frame))
+    (ef : f ≡ hearStep p (got .frame) .frame)
+  where
+    ran : (_≡_ {A = PostHeard} (record {
+      answer = hearStep p (got .frame) .answer;
+      post = hearStep p (got .frame) .post;
+      frames = framesAfter air frames f;
+    }) (postHears air p frames k)) × (airWith air frames f ≡ postHearsAir air p frames k)
+    ran = post-hear-runs air (airWith air frames f) p frames k m n (framesAfter air frames f) got (hearStep p (got .frame)) eg em en z refl (rw (← ef)) (rw (← ef))
+
+    -- what the post's own step judged is what the hearing is refused by
+    judged-so : hearStopped air p frames k ≡ t
+    judged-so = rw (← ran .0) (hear-number p (got .frame) ∙ sym et)
+
+    frames-so : framesAfter air frames f ≡ postHears air p frames k .frames
+    frames-so = ap (λ (x : PostHeard). x .frames) (ran .0)
+
+    air-so : airWith air frames f ≡ postHearsAir air p frames k
+    air-so = ran .1
+
+    took-so : q ≡ hearTook p (frameAt air k)
+    took-so = eq ∙ ap (hearTook p) (hear-judged air p frames k m n got eg em en .1 z)
+
+    -- otherwise the hearing is the post's own step, finished
+    pub hear-ran : finished known air t f q frames ≡ heardIn known air p frames k
+    unfolding finished heardIn hearTook
+    hear-ran = go (eqb t 0) refl
+      where
+        go : (b : Bool) → eqb t 0 ≡ b → finished known air t f q frames ≡ heardIn known air p frames k
+        go true e = rw (judged-so, ← frames-so, ← air-so, e, ← took-so)
+        go false e =
+            let s : q ≡ p = rw (← et, e) at eq in
+            rw (judged-so, ← frames-so, ← air-so, e, s)

@@ -11,11 +11,7 @@ use Rattle.post.specs.Taking.{kept, ticked, ordered, raisedPost, taken}
 use Rattle.steps.specs.Refusals.{orderRefusal, isNext, hearRefusal}
 use Rattle.steps.specs.InPlace.{orderTook, hearTook}
 use Rattle.yard.specs.Singles.{frameAt}
-use Rattle.lane_steps.specs.InPlace.{orderStopped, orderedIn, hearStopped, heardIn}
-
--- q has p's lane, posts and roles
-abbrev pub SameRoles : Post → Post → Type 0
-SameRoles p q = (q .lane ≡ p .lane) × (q .posts ≡ p .posts) × (q .sources ≡ p .sources) × (q .dests ≡ p .dests)
+use Rattle.lane_steps.specs.InPlace.{SameRoles, orderStopped, orderedIn, hearStopped, heardIn}
 
 taken-roles : (p : Post) (f : Frame) → SameRoles p (taken p f) × (taken p f .serial ≡ p .serial)
 unfolding taken kept ticked raisedPost

@@ -1,6 +1,7 @@
 -- What a step of one post in a yard leaves where it is done in place: what the step by value leaves, as long as the orders
 -- that are said to be known as logged are logged. For contracts. Assumes nothing.
 use Prim.Native.Nat.{ℕ}
+use mathlib.Core.Path.{_≡_}
 use mathlib.Core.Bool.{cond}
 use mathlib.Core.List.{List}
 use lib.Dec.{eqb}
@@ -60,3 +61,7 @@ heardIn known air p frames k = record {
   frames = postHears air p frames k .frames;
   air = postHearsAir air p frames k;
 }
+
+-- q has p's lane, posts and roles
+abbrev pub SameRoles : Post → Post → Type 0
+SameRoles p q = (q .lane ≡ p .lane) × (q .posts ≡ p .posts) × (q .sources ≡ p .sources) × (q .dests ≡ p .dests)

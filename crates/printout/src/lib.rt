@@ -36,13 +36,13 @@ fn put_refusal(buffer: &mut [u8], at: usize, label: &[u8], line: u16, number: u8
 }
 
 // `(post LANE (clock CLOCK) (sent SENT) (log ITEMS))`, of a post from its numbers and the arrays that are printed.
-pub fn put_post<'a>(
+pub fn put_post(
     buffer: &mut [u8],
     at: usize,
     h: Head,
-    stamps: &'a [u16; 128],
-    words: &'a [u16; 128],
-    log: &'a [u8; 128],
+    stamps: &[u16; 128],
+    words: &[u16; 128],
+    log: &[u8; 128],
 ) -> usize
     ensures { λ r. ⌜ ((last table : List ℕ) → out (now (buffer .exit)) r ≡ wrote (out (now (buffer .entry)) at) (postText (h .lane) (postOf h last table (now (stamps .entry)) (now (words .entry)) (now (log .entry))))) ⌝ }
 {
@@ -62,13 +62,13 @@ fn put_head(buffer: &mut [u8], at: usize, lane: u8, clock: u16, sent: u8) -> usi
 }
 
 // The first n items of a log, or all that there are.
-fn put_items<'a>(
+fn put_items(
     buffer: &mut [u8],
     at: usize,
     n: usize,
-    log: &'a [u8],
-    stamps: &'a [u16; 128],
-    words: &'a [u16; 128],
+    log: &[u8],
+    stamps: &[u16; 128],
+    words: &[u16; 128],
 ) -> usize
     ensures { λ r. ⌜ out (now (buffer .exit)) r ≡ wrote (out (now (buffer .entry)) at) (itemsOf (now (stamps .entry)) (now (words .entry)) (take n (now (log .entry)))) ⌝ }
 {

@@ -16,8 +16,8 @@ use Rattle.yard.specs.declared.Yard.{Yard}
 use Rattle.yard.specs.declared.PostOrdered.{PostOrdered}
 use Rattle.yard.specs.declared.PostBeaconed.{PostBeaconed}
 use Rattle.yard.specs.Singles.{postOrders, firstAfter, yardOrders, yardOrdersAir, postHears, yardHears, yardHearsAir, postBeacons, postBeaconsAir, yardBeacons, yardBeaconsAir}
-use Rattle.lane_steps.specs.InPlace.{Left, orderedIn, heardIn}
-use Rattle.lane_steps.proofs.Roles.{SameRoles, ordered-roles, heard-roles}
+use Rattle.lane_steps.specs.InPlace.{Left, SameRoles, orderedIn, heardIn}
+use Rattle.lane_steps.proofs.Roles.{ordered-roles, heard-roles}
 use Rattle.lane_steps.proofs.SameSteps.{same-order, same-hearing}
 use Rattle.script.specs.declared.Sets.{Sets}
 use Rattle.script.specs.Rows.{Rows, headOf, rowPost, rowKnown, rowPosts, rowsYard, Good, withRow}
@@ -29,7 +29,7 @@ lane-head : (s : Sets) (i c n g : ℕ) (p : Post) (h : Head) (last table stamps 
     → h ≡ headOf s i (h .clock .0) (h .serial .0) (h .logged)
 lane-head s i c n g p h last table stamps words log el ep es ed r = rw (← el, ← ep, ← es, ← ed, ← (r .0), ← (r .1), ← (r .2), ← (r .3))
 
-module _ (s : Sets) (R : Rows) (i : ℕ) (low : i < 8) (good : Good s R) (frames beacons fr n : ℕ) (first air exit : List ℕ) (h : Head)
+module _ (s : Sets) (R : Rows) (i : ℕ) (low : i < 8) (good : Good s R) (frames fr n : ℕ) (air exit : List ℕ) (h : Head)
     (last table stamps words log known : List ℕ)
   where
     -- what the step left, and the rows after it
@@ -39,11 +39,11 @@ module _ (s : Sets) (R : Rows) (i : ℕ) (low : i < 8) (good : Good s R) (frames
     abbrev pub after : Rows
     after = withRow R i (h .clock .0) (h .serial .0) (h .logged) last table stamps words log known
 
-    abbrev found : Yard
-    found = rowsYard s R frames beacons first
+    abbrev found : ℕ → List ℕ → Yard
+    found beacons first = rowsYard s R frames beacons first
 
     -- a post that keeps its roles, as the step by value leaves it
-    posts-so : (q : Post) → SameRoles (rowPost s R i) (postOf h last table stamps words log) → postOf h last table stamps words log ≡ q → Known known q
+    pub posts-so : (q : Post) → SameRoles (rowPost s R i) (postOf h last table stamps words log) → postOf h last table stamps words log ≡ q → Known known q
         → (rowPosts s after ≡ set (rowPosts s R) i q) × Good s after
     posts-so q r e k =
         let eh : h ≡ headOf s i (h .clock .0) (h .serial .0) (h .logged) = lane-head s i 0 0 0 (rowPost s R i) h last table stamps words log refl refl refl refl r in
@@ -54,14 +54,15 @@ module _ (s : Sets) (R : Rows) (i : ℕ) (low : i < 8) (good : Good s R) (frames
           good-after s R i low (h .clock .0) (h .serial .0) (h .logged) last table stamps words log known good (rw ep k),
         )
 
-    pub order-row : (word : ℕ) (first′ : List ℕ) → left ≡ orderedIn (rowKnown R i) air (rowPost s R i) frames word
+    pub order-row : (word : ℕ) (first first′ : List ℕ) → left ≡ orderedIn (rowKnown R i) air (rowPost s R i) frames word
         → first′ ≡ cond (ltb frames fr) (set first (orderPlace i (h .serial .0)) frames) first
-        → (n ≡ orderNumber (yardOrders air found i word .answer))
-        × (rowsYard s after fr beacons first′ ≡ yardOrders air found i word .yard)
-        × (exit ≡ yardOrdersAir air found i word)
+        → ((beacons : ℕ)
+        → (n ≡ orderNumber (yardOrders air (found beacons first) i word .answer))
+        × (rowsYard s after fr beacons first′ ≡ yardOrders air (found beacons first) i word .yard)
+        × (exit ≡ yardOrdersAir air (found beacons first) i word))
         × Good s after
     unfolding yardOrders yardOrdersAir firstAfter orderedIn
-    order-row word first′ e ef =
+    order-row word first first′ e ef =
         let p = rowPost s R i in
         let same = same-order (rowKnown R i) air p frames word (good .known i low) in
         let q = postOrders air p frames word .post in
@@ -72,16 +73,19 @@ module _ (s : Sets) (R : Rows) (i : ℕ) (low : i < 8) (good : Good s R) (frames
         let ex : exit ≡ orderedIn (rowKnown R i) air p frames word .air = ap (λ (x : Left). x .air) e in
         let eg : fr ≡ orderedIn (rowKnown R i) air p frames word .frames = ap (λ (x : Left). x .frames) e in
         let es : h .serial .0 ≡ q .serial .0 = ap (λ (x : Post). x .serial .0) eq in (
-          rw (lt-ltb i 8 low, row-at s R i low) (ap (λ (x : Left). x .number) e),
-          rw (lt-ltb i 8 low, row-at s R i low, so .0, ef, es, eg),
-          rw (lt-ltb i 8 low, row-at s R i low) ex,
+          (λ beacons. (
+            rw (lt-ltb i 8 low, row-at s R i low) (ap (λ (x : Left). x .number) e),
+            rw (lt-ltb i 8 low, row-at s R i low, so .0, ef, es, eg),
+            rw (lt-ltb i 8 low, row-at s R i low) ex,
+          )),
           so .1,
         )
 
     pub hear-row : (k : ℕ) → left ≡ heardIn (rowKnown R i) air (rowPost s R i) frames k
-        → (n ≡ hearNumber (yardHears air found i k .answer))
-        × (rowsYard s after fr beacons first ≡ yardHears air found i k .yard)
-        × (exit ≡ yardHearsAir air found i k)
+        → ((beacons : ℕ) (first : List ℕ)
+        → (n ≡ hearNumber (yardHears air (found beacons first) i k .answer))
+        × (rowsYard s after fr beacons first ≡ yardHears air (found beacons first) i k .yard)
+        × (exit ≡ yardHearsAir air (found beacons first) i k))
         × Good s after
     unfolding yardHears yardHearsAir heardIn
     hear-row k e =
@@ -93,9 +97,11 @@ module _ (s : Sets) (R : Rows) (i : ℕ) (low : i < 8) (good : Good s R) (frames
         let so = posts-so q (rw ep (heard-roles (rowKnown R i) air p frames k .0)) (ep ∙ same .0) (rw ek (same .1)) in
         let ex : exit ≡ heardIn (rowKnown R i) air p frames k .air = ap (λ (x : Left). x .air) e in
         let eg : fr ≡ heardIn (rowKnown R i) air p frames k .frames = ap (λ (x : Left). x .frames) e in (
-          rw (lt-ltb i 8 low, row-at s R i low) (ap (λ (x : Left). x .number) e),
-          rw (lt-ltb i 8 low, row-at s R i low, so .0, eg),
-          rw (lt-ltb i 8 low, row-at s R i low) ex,
+          (λ beacons first. (
+            rw (lt-ltb i 8 low, row-at s R i low) (ap (λ (x : Left). x .number) e),
+            rw (lt-ltb i 8 low, row-at s R i low, so .0, eg),
+            rw (lt-ltb i 8 low, row-at s R i low) ex,
+          )),
           so .1,
         )
 

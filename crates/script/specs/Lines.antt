@@ -1,26 +1,25 @@
--- One line's step and the lines from a place on, for contracts of private functions; nobody has to believe it. Assumes nothing.
+-- The sets of lanes of line 1 and the lines from a place on, for contracts of private functions; nobody has to believe it. Assumes nothing.
 use Prim.Native.Nat.{ℕ}
 use mathlib.Core.List.{List}
 use lib.ListN.{length}
 use Rattle.lines.specs.declared.Line.{Line}
+use Rattle.lines.specs.declared.Line.the-variants.{Yard, Order, Hear, Beacon, Roll, Refused}
 use Rattle.lines.specs.Lines.{linesFrom}
-use Rattle.yard.specs.declared.Yard.{Yard}
+use Rattle.yard.specs.declared.Yard as yards
 use Rattle.yard.specs.Worlds.{World}
-use Rattle.roll.specs.Answers.{answerNumber}
-use Rattle.roll.specs.Runs.{Step, answer, step, run}
-use Rattle.meaning.specs.Script.{stepOf, refusalOf}
-use Rattle.script.specs.declared.Stepped.{Stepped}
+use Rattle.script.specs.declared.Sets.{Sets}
 
-abbrev pub world : Yard → List ℕ → World
+abbrev pub world : yards.Yard → List ℕ → World
 world y air = record { yard = y; air = air }
 
--- the number that a step is refused by, or 0, and the yard after it
-abbrev pub stepped : World → Step → Stepped
-stepped w s = record { number = answerNumber (answer w s); yard = step w s .yard }
-
--- the same of a line's step, or of none
-abbrev pub lineStep : World → Line → Stepped
-lineStep w l = record { number = refusalOf w (stepOf l); yard = run w (stepOf l) .yard }
+-- the sets that line 1 asks for
+abbrev pub setsOf : Line → Sets
+setsOf (Yard posts sources dests next) = record { present = posts; sources = sources; dests = dests }
+setsOf (Order lane word next) = record { present = 0; sources = 0; dests = 0 }
+setsOf (Hear lane frame next) = record { present = 0; sources = 0; dests = 0 }
+setsOf (Beacon lane next) = record { present = 0; sources = 0; dests = 0 }
+setsOf (Roll next) = record { present = 0; sources = 0; dests = 0 }
+setsOf (Refused number) = record { present = 0; sources = 0; dests = 0 }
 
 -- the lines from a place on
 abbrev pub rest : List ℕ → ℕ → List Line

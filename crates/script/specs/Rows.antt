@@ -10,6 +10,8 @@ use Rattle.post.specs.declared.Post.{Post}
 use Rattle.post.specs.Record.{postOf}
 use Rattle.deliver.specs.Known.{Known}
 use Rattle.yard.specs.declared.Yard.{Yard}
+use Rattle.lane_steps.specs.InPlace.{SameRoles}
+use Rattle.roll.specs.Loops.{postWorld, hearings}
 use Rattle.script.specs.declared.Sets.{Sets}
 
 -- the rows of the posts, and of each post up to which serials its log is known
@@ -95,3 +97,8 @@ withRow R i clock serial logged last table stamps words log known = record {
   logs = set (R .logs) i log;
   knowns = set (R .knowns) i known;
 }
+
+-- the hearings of one post: p becomes q, what is known of its log stays true, and lane, roles and own serial stay
+abbrev pub HeardAll : Post → Post → List ℕ → ℕ → ℕ → List ℕ → List ℕ → List ℕ → Type 0
+HeardAll p q known frames after air exit ks =
+    (postWorld q after exit ≡ hearings (postWorld p frames air) ks) × Known known q × SameRoles p q × (q .serial ≡ p .serial)

@@ -1,9 +1,10 @@
 // Runs a script over a fresh yard and the air lent for it, and prints into the output lent for it. The contract cites
 // specs/Run.antt; meaning/specs/Script.antt says what a script prints.
 mod line_steps;
+mod posts;
+mod roll_rows;
 mod row_steps;
 
-use yard::Yard;
 ghost use mathlib.Core.Path.{_≡_};
 ghost use Prim.Native.Nat.{_≤_};
 ghost use lib.ListN.{length};
@@ -12,6 +13,7 @@ ghost use Rattle.lines.specs.Lines.{judged};
 ghost use Rattle.meaning.specs.Script.{worldAfter, refusedLines, scriptWorld, scriptText};
 ghost use Rattle.script.specs.Run.{bytesPrinted, outputAfter, airLeft};
 ghost use Rattle.script.specs.Lines.{world, rest};
+ghost use Rattle.script.specs.Rows.{rows, rowsYard, Good};
 
 // The lanes that have a post, the sources and the destinations among them.
 pub(crate) struct Sets {
@@ -20,22 +22,24 @@ pub(crate) struct Sets {
     pub dests: u8,
 }
 
-// The number that a step is refused by, or 0, and how many frames are on the air.
+// The number that a step of one lane is refused by, or 0, and how many frames are on the air.
 pub(crate) struct Counted {
     pub number: u8,
     pub frames: u16,
 }
 
-// The number that a line's step is refused by, or 0, and the yard after it.
+// The number that a line's step is refused by, or 0, how many frames are on the air, and how many beacons were sent.
 pub(crate) struct Stepped {
     pub number: u8,
-    pub yard: Yard,
+    pub frames: u16,
+    pub beacons: u16,
 }
 
-// The yard after the lines run so far, and the position in the output.
+// The position in the output after the lines run so far, how many frames are on the air, and how many beacons were sent.
 struct Ran {
-    pub yard: Yard,
     pub to: usize,
+    pub frames: u16,
+    pub beacons: u16,
 }
 
 // Bytes of the output: every printout fits.
@@ -65,35 +69,104 @@ fn run_good(script: &[u8], air: &mut [u8], output: &mut [u8]) -> usize
     ensures { λ r. ⌜ out (now (output .exit)) r ≡ wrote (out (now (output .entry)) 0) (scriptText (now (script .entry)) (now (air .entry))) ⌝ }
     ensures bytes { λ _. ⌜ now (air .exit) ≡ scriptWorld (now (script .entry)) (now (air .entry)) .air ⌝ }
 {
-    let first = reader::read_line(script, 0);
-    let yard = line_steps::yard_of(first);
-    let from = reader::next_of(script, first);
-    let ran = run_lines(script, air, output, yard, from);
-    let last = ran.yard;
-    printout::put_posts(output, ran.to, last)
+    let first_line = reader::read_line(script, 0);
+    let s = line_steps::sets_of(first_line);
+    let from = reader::next_of(script, first_line);
+    let mut clocks = [0u16; 8];
+    let mut serials = [0u8; 8];
+    let mut loggeds = [0u8; 8];
+    let mut lasts = [[0u8; 8]; 8];
+    let mut tables = [[0u16; 136]; 8];
+    let mut stamps = [[0u16; 128]; 8];
+    let mut words = [[0u16; 128]; 8];
+    let mut logs = [[0u8; 128]; 8];
+    let mut knowns = [[0u8; 8]; 8];
+    let mut first = [0u16; 128];
+    let ran = run_lines(
+        script,
+        air,
+        output,
+        s,
+        &mut clocks,
+        &mut serials,
+        &mut loggeds,
+        &mut lasts,
+        &mut tables,
+        &mut stamps,
+        &mut words,
+        &mut logs,
+        &mut knowns,
+        &mut first,
+        from,
+    );
+    posts::put_posts(
+        output,
+        ran.to,
+        s,
+        &clocks,
+        &serials,
+        &loggeds,
+        &stamps,
+        &words,
+        &logs,
+    )
 }
 
 // The steps of the lines from a place on, line 2 being the first; each refused one is printed.
-fn run_lines(script: &[u8], air: &mut [u8], output: &mut [u8], y: Yard, from: usize) -> Ran
-    requires { ⌜ (length (now script) ≤ 48000) × (1 ≤ from) ⌝ }
-    ensures { λ r. ⌜ r .yard ≡ worldAfter (world y (now (air .entry))) (rest (now (script .entry)) from) .yard ⌝ }
-    ensures printed { λ r. ⌜ out (now (output .exit)) (r .to) ≡ wrote (out (now (output .entry)) 0) (refusedLines (world y (now (air .entry))) 1 (rest (now (script .entry)) from)) ⌝ }
-    ensures bytes { λ _. ⌜ now (air .exit) ≡ worldAfter (world y (now (air .entry))) (rest (now (script .entry)) from) .air ⌝ }
+fn run_lines(
+    script: &[u8],
+    air: &mut [u8],
+    output: &mut [u8],
+    s: Sets,
+    clocks: &mut [u16; 8],
+    serials: &mut [u8; 8],
+    loggeds: &mut [u8; 8],
+    lasts: &mut [[u8; 8]; 8],
+    tables: &mut [[u16; 136]; 8],
+    stamps: &mut [[u16; 128]; 8],
+    words: &mut [[u16; 128]; 8],
+    logs: &mut [[u8; 128]; 8],
+    knowns: &mut [[u8; 8]; 8],
+    first: &mut [u16; 128],
+    from: usize,
+) -> Ran
+    requires { ⌜ (length (now script) ≤ 48000) × (1 ≤ from) × Good s (rows (now clocks) (now serials) (now loggeds) (now lasts) (now tables) (now stamps) (now words) (now logs) (now knowns)) ⌝ }
+    ensures { λ r. ⌜ world (rowsYard s (rows (now (clocks .exit)) (now (serials .exit)) (now (loggeds .exit)) (now (lasts .exit)) (now (tables .exit)) (now (stamps .exit)) (now (words .exit)) (now (logs .exit)) (now (knowns .exit))) (r .frames) (r .beacons) (now (first .exit))) (now (air .exit)) ≡ worldAfter (world (rowsYard s (rows (now (clocks .entry)) (now (serials .entry)) (now (loggeds .entry)) (now (lasts .entry)) (now (tables .entry)) (now (stamps .entry)) (now (words .entry)) (now (logs .entry)) (now (knowns .entry))) 0 0 (now (first .entry))) (now (air .entry))) (rest (now (script .entry)) from) ⌝ }
+    ensures printed { λ r. ⌜ out (now (output .exit)) (r .to) ≡ wrote (out (now (output .entry)) 0) (refusedLines (world (rowsYard s (rows (now (clocks .entry)) (now (serials .entry)) (now (loggeds .entry)) (now (lasts .entry)) (now (tables .entry)) (now (stamps .entry)) (now (words .entry)) (now (logs .entry)) (now (knowns .entry))) 0 0 (now (first .entry))) (now (air .entry))) 1 (rest (now (script .entry)) from)) ⌝ }
 {
-    let mut now_yard = y;
+    let mut frames = 0u16;
+    let mut beacons = 0u16;
     let mut at = from;
     let mut line = 1u16;
     let mut to = 0usize;
     while at < script.len() {
         let l = reader::read_line(script, at);
-        let stepped = line_steps::run_step(now_yard, air, l);
+        let stepped = line_steps::run_step(
+            s,
+            clocks,
+            serials,
+            loggeds,
+            lasts,
+            tables,
+            stamps,
+            words,
+            logs,
+            knowns,
+            first,
+            air,
+            frames,
+            beacons,
+            l,
+        );
         line = line + 1;
         to = line_steps::put_refusal(output, to, line, stepped.number);
-        now_yard = stepped.yard;
+        frames = stepped.frames;
+        beacons = stepped.beacons;
         at = reader::next_of(script, l);
     }
     Ran {
-        yard: now_yard,
         to: to,
+        frames: frames,
+        beacons: beacons,
     }
 }

@@ -1,64 +1,65 @@
-// One line's step on the yard and the air: specs/Lines.antt.
+// One line's step on the rows of the yard and the air: specs/Lines.antt.
+use crate::Sets;
 use crate::Stepped;
+use crate::roll_rows;
+use crate::row_steps;
 use lines::Line;
-use roll::RollAnswer;
-use steps::BeaconAnswer;
-use steps::HearAnswer;
-use steps::OrderAnswer;
-use yard::Yard;
 ghost use mathlib.Core.Path.{_≡_};
 ghost use mathlib.Core.Bool.{not};
 ghost use lib.Dec.{eqb};
 ghost use Rattle.text.specs.Decimal.{given};
 ghost use Rattle.text.specs.Writing.{out, wrote};
-ghost use Rattle.steps.specs.Answers.{orderNumber, hearNumber, beaconNumber};
-ghost use Rattle.yard.specs.Yards.{yardMade};
-ghost use Rattle.yard.specs.Worlds.{order, hear, beacon};
-ghost use Rattle.roll.specs.Answers.{rollNumber};
-ghost use Rattle.roll.specs.Runs.{one, roll, step, run};
+ghost use Rattle.roll.specs.Runs.{run};
 ghost use Rattle.meaning.specs.Texts.{refusedText};
-ghost use Rattle.meaning.specs.Script.{stepOf, yardOf};
-ghost use Rattle.script.specs.Lines.{world, stepped, lineStep};
+ghost use Rattle.meaning.specs.Script.{stepOf, refusalOf};
+ghost use Rattle.script.specs.Lines.{world, setsOf};
+ghost use Rattle.script.specs.Rows.{rows, rowsYard, Good};
 
-// The fresh yard that line 1 asks for.
-pub(crate) fn yard_of(l: Line) -> Yard
-    ensures { λ r. ⌜ r ≡ yardOf l ⌝ }
+// The sets of lanes that line 1 asks for.
+pub(crate) fn sets_of(l: Line) -> Sets
+    ensures { λ r. ⌜ r ≡ setsOf l ⌝ }
 {
-    match l {
-        Line::Yard {
-            posts,
-            sources,
-            dests,
-            next: _,
-        } => fresh(posts, sources, dests),
-        Line::Order {
-            lane: _,
-            word: _,
-            next: _,
-        } => fresh(0, 0, 0),
-        Line::Hear {
-            lane: _,
-            frame: _,
-            next: _,
-        } => fresh(0, 0, 0),
-        Line::Beacon { lane: _, next: _ } => fresh(0, 0, 0),
-        Line::Roll { next: _ } => fresh(0, 0, 0),
-        Line::Refused(_) => fresh(0, 0, 0),
+    if let Line::Yard {
+        posts,
+        sources,
+        dests,
+        next: _,
+    } = l {
+        Sets {
+            present: posts,
+            sources: sources,
+            dests: dests,
+        }
+    } else {
+        Sets {
+            present: 0,
+            sources: 0,
+            dests: 0,
+        }
     }
 }
 
-fn fresh(posts: u8, sources: u8, dests: u8) -> Yard
-    ensures { λ r. ⌜ r ≡ yardMade posts sources dests .yard ⌝ }
-{
-    let made = yard::fresh(posts, sources, dests);
-    let yard = made.yard;
-    yard
-}
-
 // The step that a line asks for.
-pub(crate) fn run_step(y: Yard, air: &mut [u8], l: Line) -> Stepped
-    ensures { λ r. ⌜ r ≡ lineStep (world y (now (air .entry))) l ⌝ }
-    ensures bytes { λ _. ⌜ now (air .exit) ≡ run (world y (now (air .entry))) (stepOf l) .air ⌝ }
+pub(crate) fn run_step(
+    s: Sets,
+    clocks: &mut [u16; 8],
+    serials: &mut [u8; 8],
+    loggeds: &mut [u8; 8],
+    lasts: &mut [[u8; 8]; 8],
+    tables: &mut [[u16; 136]; 8],
+    stamps: &mut [[u16; 128]; 8],
+    words: &mut [[u16; 128]; 8],
+    logs: &mut [[u8; 128]; 8],
+    knowns: &mut [[u8; 8]; 8],
+    first: &mut [u16; 128],
+    air: &mut [u8],
+    frames: u16,
+    beacons: u16,
+    l: Line,
+) -> Stepped
+    requires { ⌜ Good s (rows (now clocks) (now serials) (now loggeds) (now lasts) (now tables) (now stamps) (now words) (now logs) (now knowns)) ⌝ }
+    ensures { λ r. ⌜ (r .number ≡ refusalOf (world (rowsYard s (rows (now (clocks .entry)) (now (serials .entry)) (now (loggeds .entry)) (now (lasts .entry)) (now (tables .entry)) (now (stamps .entry)) (now (words .entry)) (now (logs .entry)) (now (knowns .entry))) frames beacons (now (first .entry))) (now (air .entry))) (stepOf l)) × (rowsYard s (rows (now (clocks .exit)) (now (serials .exit)) (now (loggeds .exit)) (now (lasts .exit)) (now (tables .exit)) (now (stamps .exit)) (now (words .exit)) (now (logs .exit)) (now (knowns .exit))) (r .frames) (r .beacons) (now (first .exit)) ≡ run (world (rowsYard s (rows (now (clocks .entry)) (now (serials .entry)) (now (loggeds .entry)) (now (lasts .entry)) (now (tables .entry)) (now (stamps .entry)) (now (words .entry)) (now (logs .entry)) (now (knowns .entry))) frames beacons (now (first .entry))) (now (air .entry))) (stepOf l) .yard) × (now (air .exit) ≡ run (world (rowsYard s (rows (now (clocks .entry)) (now (serials .entry)) (now (loggeds .entry)) (now (lasts .entry)) (now (tables .entry)) (now (stamps .entry)) (now (words .entry)) (now (logs .entry)) (now (knowns .entry))) frames beacons (now (first .entry))) (now (air .entry))) (stepOf l) .air) ⌝ }
+    ensures good { λ _. ⌜ Good s (rows (now (clocks .exit)) (now (serials .exit)) (now (loggeds .exit)) (now (lasts .exit)) (now (tables .exit)) (now (stamps .exit)) (now (words .exit)) (now (logs .exit)) (now (knowns .exit))) ⌝ }
 {
     match l {
         Line::Yard {
@@ -66,121 +67,100 @@ pub(crate) fn run_step(y: Yard, air: &mut [u8], l: Line) -> Stepped
             sources: _,
             dests: _,
             next: _,
-        } => no_step(y),
+        } => no_step(frames, beacons),
         Line::Order {
             lane,
             word,
             next: _,
-        } => run_order(y, air, lane, word),
+        } => {
+            let done = row_steps::order(
+                s,
+                clocks,
+                serials,
+                loggeds,
+                lasts,
+                tables,
+                stamps,
+                words,
+                logs,
+                knowns,
+                first,
+                air,
+                frames,
+                lane,
+                word,
+            );
+            Stepped {
+                number: done.number,
+                frames: done.frames,
+                beacons: beacons,
+            }
+        }
         Line::Hear {
             lane,
             frame,
             next: _,
-        } => run_hear(y, air, lane, frame),
-        Line::Beacon { lane, next: _ } => run_beacon(y, air, lane),
-        Line::Roll { next: _ } => run_roll(y, air),
-        Line::Refused(_) => no_step(y),
+        } => {
+            let done = row_steps::hear(
+                s,
+                clocks,
+                serials,
+                loggeds,
+                lasts,
+                tables,
+                stamps,
+                words,
+                logs,
+                knowns,
+                air,
+                frames,
+                lane,
+                frame as usize,
+            );
+            Stepped {
+                number: done.number,
+                frames: done.frames,
+                beacons: beacons,
+            }
+        }
+        Line::Beacon { lane, next: _ } => row_steps::beacon(
+            s,
+            clocks,
+            serials,
+            loggeds,
+            tables,
+            air,
+            frames,
+            beacons,
+            lane,
+        ),
+        Line::Roll { next: _ } => roll_rows::call(
+            s,
+            clocks,
+            serials,
+            loggeds,
+            lasts,
+            tables,
+            stamps,
+            words,
+            logs,
+            knowns,
+            first,
+            air,
+            frames,
+            beacons,
+        ),
+        Line::Refused(_) => no_step(frames, beacons),
     }
 }
 
-fn no_step(y: Yard) -> Stepped
-    ensures { λ r. ⌜ r ≡ record { number = 0; yard = y } ⌝ }
+fn no_step(frames: u16, beacons: u16) -> Stepped
+    ensures { λ r. ⌜ r ≡ record { number = 0; frames = frames; beacons = beacons } ⌝ }
 {
-    Stepped { number: 0, yard: y }
-}
-
-fn run_order(y: Yard, air: &mut [u8], lane: u8, word: u16) -> Stepped
-    ensures { λ r. ⌜ r ≡ stepped (world y (now (air .entry))) (one (order lane word)) ⌝ }
-    ensures bytes { λ _. ⌜ now (air .exit) ≡ step (world y (now (air .entry))) (one (order lane word)) .air ⌝ }
-{
-    let done = yard::order(y, air, lane as usize, word as usize);
-    let answer = done.answer;
-    let next = done.yard;
     Stepped {
-        number: order_number(answer),
-        yard: next,
-    }
-}
-
-fn run_hear(y: Yard, air: &mut [u8], lane: u8, frame: u32) -> Stepped
-    ensures { λ r. ⌜ r ≡ stepped (world y (now (air .entry))) (one (hear lane frame)) ⌝ }
-    ensures bytes { λ _. ⌜ now (air .exit) ≡ step (world y (now (air .entry))) (one (hear lane frame)) .air ⌝ }
-{
-    let done = yard::hear(y, air, lane as usize, frame as usize);
-    let answer = done.answer;
-    let next = done.yard;
-    Stepped {
-        number: hear_number(answer),
-        yard: next,
-    }
-}
-
-fn run_beacon(y: Yard, air: &mut [u8], lane: u8) -> Stepped
-    ensures { λ r. ⌜ r ≡ stepped (world y (now (air .entry))) (one (beacon lane)) ⌝ }
-    ensures bytes { λ _. ⌜ now (air .exit) ≡ step (world y (now (air .entry))) (one (beacon lane)) .air ⌝ }
-{
-    let done = yard::beacon(y, air, lane as usize);
-    let answer = done.answer;
-    let next = done.yard;
-    Stepped {
-        number: beacon_number(answer),
-        yard: next,
-    }
-}
-
-fn run_roll(y: Yard, air: &mut [u8]) -> Stepped
-    ensures { λ r. ⌜ r ≡ stepped (world y (now (air .entry))) roll ⌝ }
-    ensures bytes { λ _. ⌜ now (air .exit) ≡ step (world y (now (air .entry))) roll .air ⌝ }
-{
-    let called = roll::call(y, air);
-    let answer = called.answer;
-    let rolled = called.yard;
-    Stepped {
-        number: roll_number(answer),
-        yard: rolled,
-    }
-}
-
-fn order_number(answer: OrderAnswer) -> u8
-    ensures { λ r. ⌜ r ≡ orderNumber answer ⌝ }
-{
-    match answer {
-        OrderAnswer::Sent {
-            serial: _,
-            stamp: _,
-            count: _,
-        } => 0,
-        OrderAnswer::Refused(number) => number,
-    }
-}
-
-fn hear_number(answer: HearAnswer) -> u8
-    ensures { λ r. ⌜ r ≡ hearNumber answer ⌝ }
-{
-    match answer {
-        HearAnswer::Taken(_) => 0,
-        HearAnswer::Again(_) => 0,
-        HearAnswer::Early(_) => 0,
-        HearAnswer::Beacon(_) => 0,
-        HearAnswer::Refused(number) => number,
-    }
-}
-
-fn beacon_number(answer: BeaconAnswer) -> u8
-    ensures { λ r. ⌜ r ≡ beaconNumber answer ⌝ }
-{
-    match answer {
-        BeaconAnswer::Sent => 0,
-        BeaconAnswer::Refused(number) => number,
-    }
-}
-
-fn roll_number(answer: RollAnswer) -> u8
-    ensures { λ r. ⌜ r ≡ rollNumber answer ⌝ }
-{
-    match answer {
-        RollAnswer::Called(_) => 0,
-        RollAnswer::Refused(number) => number,
+        number: 0,
+        frames: frames,
+        beacons: beacons,
     }
 }
 

@@ -1,6 +1,7 @@
 // The step of one lane's post, on its row of each array. The contracts cite specs/Rows.antt.
 use crate::Counted;
 use crate::Sets;
+use crate::Stepped;
 use frame::Serial;
 use frame::Stamp;
 use post::Head;
@@ -129,5 +130,54 @@ pub(crate) fn hear(
     Counted {
         number: done.number,
         frames: done.frames,
+    }
+}
+
+// Beacon (lane) in the yard.
+pub(crate) fn beacon(
+    s: Sets,
+    clocks: &[u16; 8],
+    serials: &[u8; 8],
+    loggeds: &[u8; 8],
+    tables: &[[u16; 136]; 8],
+    air: &mut [u8],
+    frames: u16,
+    beacons: u16,
+    lane: u8,
+) -> Stepped
+    ensures { λ r. ⌜ ((first : List ℕ) (lasts stamps words logs knowns : List (List ℕ)) → (r .number ≡ beaconNumber (yardBeacons (now (air .entry)) (rowsYard s (rows (now (clocks .entry)) (now (serials .entry)) (now (loggeds .entry)) lasts (now (tables .entry)) stamps words logs knowns) frames beacons first) lane .answer)) × (rowsYard s (rows (now (clocks .entry)) (now (serials .entry)) (now (loggeds .entry)) lasts (now (tables .entry)) stamps words logs knowns) (r .frames) (r .beacons) first ≡ yardBeacons (now (air .entry)) (rowsYard s (rows (now (clocks .entry)) (now (serials .entry)) (now (loggeds .entry)) lasts (now (tables .entry)) stamps words logs knowns) frames beacons first) lane .yard) × (now (air .exit) ≡ yardBeaconsAir (now (air .entry)) (rowsYard s (rows (now (clocks .entry)) (now (serials .entry)) (now (loggeds .entry)) lasts (now (tables .entry)) stamps words logs knowns) frames beacons first) lane)) ⌝ }
+{
+    if lane >= 8 {
+        return Stepped {
+            number: 4,
+            frames: frames,
+            beacons: beacons,
+        };
+    }
+    let i = lane as usize;
+    let h = Head {
+        lane: lane,
+        posts: s.present,
+        sources: s.sources,
+        dests: s.dests,
+        clock: Stamp(clocks[i]),
+        serial: Serial(serials[i]),
+        logged: loggeds[i],
+    };
+    let sent = lane_steps::beacon(h, air, frames, beacons, &tables[i]);
+    let answer = sent.answer;
+    Stepped {
+        number: beacon_number(answer),
+        frames: sent.frames,
+        beacons: sent.beacons,
+    }
+}
+
+fn beacon_number(answer: BeaconAnswer) -> u8
+    ensures { λ r. ⌜ r ≡ beaconNumber answer ⌝ }
+{
+    match answer {
+        BeaconAnswer::Sent => 0,
+        BeaconAnswer::Refused(number) => number,
     }
 }

@@ -1,0 +1,14 @@
+use borrow.Author.Needs.{needs, scaled-fits}
+use lib.Dec.{lit<}
+use Rattle.script.proofs.RowSteps.{hear-row, hear-row-4}
+use Rattle.script.proofs.row_steps.hear.Statement.{statement}
+use Rattle.script.proofs.row_steps.hear.Tie as tie
+
+returns : tie.Need-returns
+returns c = ((λ beacons first. hear-row-4 _ _ _ _ (c .if1 .taken)), c .before .before .pre)
+
+returns-2 : tie.Need-returns-2
+returns-2 c = hear-row (c .before .before .before .before .before .before .before .before .before .before .before .before .before .before .before .before .args .s) _ _ (c .before .before .before .before .before .before .before .before .before .before .before .before .before .before .if1 .left) (c .before .before .before .before .before .before .before .before .before .before .before .before .before .before .before .before .pre) _ _ _ _ _ _ _ _ _ _ _ _ _ (c .before .before .before .hear .ensures)
+
+pub hear-spec : {M : Type 1} → statement M
+hear-spec = tie.close (tie.spec returns (λ c. search needs) (λ c. search needs) (λ c. search needs) (λ c. search needs) (λ c. search needs) (λ c. search needs) (λ c. search needs) (λ c. search needs) (λ c. search needs) (λ c. search needs) (λ c. search needs) (λ c. search needs) (λ c. search needs) (λ c. search needs) (λ c. search needs) (λ c. search needs) (λ c κs. tt) (λ c. search needs) (λ c. search needs) (λ c. search needs) (λ c. search needs) (λ c. search needs) returns-2)

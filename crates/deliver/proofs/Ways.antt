@@ -13,9 +13,9 @@ use Rattle.deliver.specs.declared.Delivered.{Delivered}
 use Rattle.deliver.specs.declared.Joined.{Joined}
 use Rattle.deliver.specs.declared.NewLog.{NewLog}
 use Rattle.deliver.specs.declared.Least.{Least}
-use Rattle.deliver.specs.Delivery.{sort, delivered}
+use Rattle.deliver.specs.Delivery.{allBelow, sort, delivered}
 use Rattle.deliver.specs.Known.{dueBelowFrom, duePlacesFrom, dueLogFrom, joinedFrom, knownBelow, knownAfter}
-use Rattle.deliver.specs.Loops.{waitsAt, readyIn, leastBelow, marksBelow, Gathered, gathered, gatheredAll, appendedBelow, logBy}
+use Rattle.deliver.specs.Loops.{sameAt, readyIn, leastBelow, marksBelow, Gathered, gathered, gatheredAll, appendedBelow, logBy}
 use Rattle.deliver.proofs.Gathering.{gatheredOfAll, sorts, appended-is}
 use Rattle.deliver.proofs.Waiting.{none-waits, none-ready}
 use Rattle.deliver.proofs.KnownLaws.{known-none, joined-is}
@@ -56,7 +56,7 @@ pub join-unready : (known : List ℕ) (p : Post) (least : Least) (b : Bool) (r :
     → _≡_ {A = NewLog} (record { log = p .log; logged = r .logged; count = r .count }) (dueLogFrom known p)
 join-unready known p least b r el e f q = rw q (none-ready known p (rw el at (sym e ∙ f)))
 
-pub join-unwaiting : (known : List ℕ) (p : Post) (b : Bool) (r : Joined) → b ≡ anyBelow (waitsAt known (p .last)) 8 → b ≡ false
+pub join-unwaiting : (known : List ℕ) (p : Post) (b : Bool) (r : Joined) → b ≡ allBelow (sameAt known (p .last)) 8 → b ≡ true
     → r ≡ record { logged = min (p .logged) 128; count = 0 }
     → _≡_ {A = NewLog} (record { log = p .log; logged = r .logged; count = r .count }) (dueLogFrom known p)
 join-unwaiting known p b r e f q = rw q (none-waits known p (sym e ∙ f))

@@ -5,19 +5,20 @@ ghost use mathlib.Core.Path.{_≡_};
 ghost use Prim.Native.Nat.{_<_, min};
 ghost use lib.ListN.{getD};
 ghost use Rattle.frame.specs.Lanes.{anyBelow};
-ghost use Rattle.deliver.specs.Loops.{waitsAt, upTo, readyIn, lowered, leastBelow};
+ghost use Rattle.deliver.specs.Delivery.{allBelow};
+ghost use Rattle.deliver.specs.Loops.{sameAt, upTo, readyIn, lowered, leastBelow};
 
-// Whether any lane has orders taken that are not known to be logged.
-pub(crate) fn any_waits<'a>(known: &'a [u8; 8], last: &'a [u8; 8]) -> bool
-    ensures { λ r. ⌜ r ≡ anyBelow (waitsAt (now (known .entry)) (now (last .entry))) 8 ⌝ }
+// Whether each lane's last order taken is the last one known to be logged: then none waits.
+pub(crate) fn none_waits<'a>(known: &'a [u8; 8], last: &'a [u8; 8]) -> bool
+    ensures { λ r. ⌜ r ≡ allBelow (sameAt (now (known .entry)) (now (last .entry))) 8 ⌝ }
 {
-    let mut waits = false;
+    let mut same = true;
     for lane in 0..8u8 {
         let logged = cells::last_taken(known, lane);
         let taken = cells::last_taken(last, lane);
-        waits = waits | (logged.0 < taken.0);
+        same = same & (logged.0 == taken.0);
     }
-    waits
+    same
 }
 
 // The stamp up to which every source has been heard: the least of their entries at the last serial taken.
@@ -55,7 +56,7 @@ fn lower(least: Least, source: bool, heard: Stamp) -> Least
     }
 }
 
-// Whether any of these has a stamp not above the least.
+// Whether any order that waits has a stamp not above the least.
 pub(crate) fn any_ready<'a>(
     known: &'a [u8; 8],
     last: &'a [u8; 8],

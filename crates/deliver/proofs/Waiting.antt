@@ -30,22 +30,12 @@ pub none-yet : (test : ℕ → Bool) → false ≡ anyBelow test 0
 unfolding anyBelow
 none-yet test = refl
 
-pub all-yet : (test : ℕ → Bool) → true ≡ allBelow test 0
-unfolding allBelow
-all-yet test = refl
-
 and-parts : (a b : Bool) → (a && b) ≡ true → (a ≡ true) × (b ≡ true)
 and-parts true b e = (refl, e)
 and-parts false b e = absurd (let z : _≡_ {A = ℕ} 0 1 = cc in omega arith)
 
--- one lane more
-pub same-more : (known last : List ℕ) (n : ℕ) (b : Bool) (k l : Serial) → b ≡ allBelow (sameAt known last) n → k ≡ record { 0 = getD known n 0 }
-    → l ≡ record { 0 = getD last n 0 } → (b && eqb (k .0) (l .0)) ≡ allBelow (sameAt known last) (n + 1)
-unfolding allBelow
-same-more known last n b k l p q e = rw (add-one, q, e, p)
-
 -- every lane
-all-at : (test : ℕ → Bool) (n i : ℕ) → allBelow test n ≡ true → i < n → test i ≡ true
+pub all-at : (test : ℕ → Bool) (n i : ℕ) → allBelow test n ≡ true → i < n → test i ≡ true
 unfolding allBelow
 all-at test zero i e h = absurd (omega arith)
 all-at test (suc n) i e h = go (and-parts (allBelow test n) (test n) e) (ℕ-discrete i n) (λ q l. all-at test n i q l)

@@ -172,7 +172,7 @@ advanced-known known p place e all = go (eqb (getD known (place / 16) 0) (place 
     go false q = all
 
 -- n logged orders more
-below-known : (known : List ℕ) (p : Post) (from n : ℕ) → from + n ≤ min (p .logged) 128 → Known known p → Known (knownBelow known (p .log) from n) p
+pub below-known : (known : List ℕ) (p : Post) (from n : ℕ) → from + n ≤ min (p .logged) 128 → Known known p → Known (knownBelow known (p .log) from n) p
 unfolding knownBelow
 below-known known p from zero h all = all
 below-known known p from (suc n) h all =

@@ -1,5 +1,6 @@
 pub mod Turns
 pub mod Gathering
 pub mod Waiting
+pub mod Bytes
 pub mod Ways
 pub mod KnownLaws

@@ -6,9 +6,9 @@ use Prim.Native.Nat.{ℕ, zero, suc, _+_, _-_, _*_, _/_, _%_, _<_, _≤_, min}
 use native.Mathlib.Numerals.{add-one}
 use native.Mathlib.Omega.{arith}
 use native.Mathlib.Decide.{ℕ-discrete, decLt}
-use lib.Dec.{ltb}
+use lib.Dec.{ltb, eqb}
 use lib.ListN.{getD}
-use borrow.Author.Tests.{ltb-true, ltb-false, lt-ltb, le-ltb}
+use borrow.Author.Tests.{ltb-true, eqb-true, lt-ltb, le-ltb}
 use Rattle.frame.specs.Lanes.{anyBelow}
 use Rattle.frame.specs.declared.Serial.{Serial}
 use Rattle.frame.specs.declared.Stamp.{Stamp}
@@ -17,7 +17,7 @@ use Rattle.deliver.specs.declared.Least.{Least}
 use Rattle.deliver.specs.declared.NewLog.{NewLog}
 use Rattle.deliver.specs.Delivery.{isTaken, isLogged, isDue, stampAt, allBelow, agrees, sort}
 use Rattle.deliver.specs.Known.{isDueFrom, dueBelowFrom, duePlacesFrom, dueLogFrom}
-use Rattle.deliver.specs.Loops.{waitsAt, upTo, readyAt, readyIn, leastBelow}
+use Rattle.deliver.specs.Loops.{sameAt, upTo, readyAt, readyIn, leastBelow}
 use Rattle.deliver.proofs.Gathering.{agree-all}
 
 -- ---- a test at the numbers below n
@@ -30,10 +30,19 @@ pub none-yet : (test : ℕ → Bool) → false ≡ anyBelow test 0
 unfolding anyBelow
 none-yet test = refl
 
--- one lane more
-pub waits-more : (known last : List ℕ) (n : ℕ) (b : Bool) (k l : Serial) → b ≡ anyBelow (waitsAt known last) n → k ≡ record { 0 = getD known n 0 }
-    → l ≡ record { 0 = getD last n 0 } → (b || ltb (k .0) (l .0)) ≡ anyBelow (waitsAt known last) (n + 1)
-waits-more known last n b k l p q e = rw (q, e) (any-more (waitsAt known last) n b (waitsAt known last n) p refl)
+and-parts : (a b : Bool) → (a && b) ≡ true → (a ≡ true) × (b ≡ true)
+and-parts true b e = (refl, e)
+and-parts false b e = absurd (let z : _≡_ {A = ℕ} 0 1 = cc in omega arith)
+
+-- every lane
+pub all-at : (test : ℕ → Bool) (n i : ℕ) → allBelow test n ≡ true → i < n → test i ≡ true
+unfolding allBelow
+all-at test zero i e h = absurd (omega arith)
+all-at test (suc n) i e h = go (and-parts (allBelow test n) (test n) e) (ℕ-discrete i n) (λ q l. all-at test n i q l)
+  where
+    go : (allBelow test n ≡ true) × (test n ≡ true) → Dec (i ≡ n) → (allBelow test n ≡ true → i < n → test i ≡ true) → test i ≡ true
+    go b (yes q) ih = rw q (b .1)
+    go b (no q) ih = ih (b .0) (omega arith)
 
 or-parts : (a b : Bool) → (a || b) ≡ false → (a ≡ false) × (b ≡ false)
 or-parts true b e = absurd (let z : _≡_ {A = ℕ} 0 1 = cc in omega arith)
@@ -130,11 +139,11 @@ module _ (known : List ℕ) (p : Post) where
   not-waiting true false false passed h = refl
   not-waiting true false true passed h = ap not (h refl)
 
-  pub none-waits : anyBelow (waitsAt known (p .last)) 8 ≡ false
+  pub none-waits : allBelow (sameAt known (p .last)) 8 ≡ true
       → _≡_ {A = NewLog} (record { log = p .log; logged = min (p .logged) 128; count = 0 }) (dueLogFrom known p)
   unfolding isDueFrom isDue
   none-waits e = log-none (λ place h.
-      let l = ltb-false (getD known (place / 16) 0) (getD (p .last) (place / 16) 0) (none-at (waitsAt known (p .last)) 8 (place / 16) e (omega arith)) in
+      let l = eqb-true (getD known (place / 16) 0) (getD (p .last) (place / 16) 0) (all-at (sameAt known (p .last)) 8 (place / 16) e (omega arith)) in
       not-waiting (isTaken p place) (isLogged p place) (allBelow (agrees p (stampAt p place)) 8) (ltb (place % 16) (getD known (place / 16) 0))
       (λ t. lt-ltb (place % 16) (getD known (place / 16) 0) (omega (arith, l, ltb-true (place % 16) (getD (p .last) (place / 16) 0) t))))
 

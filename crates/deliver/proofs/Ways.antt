@@ -13,12 +13,12 @@ use Rattle.deliver.specs.declared.Delivered.{Delivered}
 use Rattle.deliver.specs.declared.Joined.{Joined}
 use Rattle.deliver.specs.declared.NewLog.{NewLog}
 use Rattle.deliver.specs.declared.Least.{Least}
-use Rattle.deliver.specs.Delivery.{sort, delivered}
-use Rattle.deliver.specs.Known.{dueBelowFrom, duePlacesFrom, dueLogFrom, joinedFrom, knownBelow, knownAfter}
-use Rattle.deliver.specs.Loops.{waitsAt, readyIn, leastBelow, marksBelow, Gathered, gathered, gatheredAll, appendedBelow, logBy}
+use Rattle.deliver.specs.Delivery.{allBelow, sort, delivered}
+use Rattle.deliver.specs.Known.{Known, dueBelowFrom, duePlacesFrom, dueLogFrom, joinedFrom, knownBelow, knownAfter}
+use Rattle.deliver.specs.Loops.{sameAt, readyIn, leastBelow, marksBelow, Gathered, gathered, gatheredAll, appendedBelow, logBy}
 use Rattle.deliver.proofs.Gathering.{gatheredOfAll, sorts, appended-is}
 use Rattle.deliver.proofs.Waiting.{none-waits, none-ready}
-use Rattle.deliver.proofs.KnownLaws.{known-none, joined-is}
+use Rattle.deliver.proofs.KnownLaws.{known-none, below-known, joined-is}
 
 -- what the gathered ones leave is what the definition says
 pub log-is : (known : List ℕ) (p : Post) → logBy known (p .last) (p .stamps) (leastBelow (p .sources) (p .last) (p .table) 8) (p .log) (p .logged) ≡ dueLogFrom known p
@@ -56,7 +56,7 @@ pub join-unready : (known : List ℕ) (p : Post) (least : Least) (b : Bool) (r :
     → _≡_ {A = NewLog} (record { log = p .log; logged = r .logged; count = r .count }) (dueLogFrom known p)
 join-unready known p least b r el e f q = rw q (none-ready known p (rw el at (sym e ∙ f)))
 
-pub join-unwaiting : (known : List ℕ) (p : Post) (b : Bool) (r : Joined) → b ≡ anyBelow (waitsAt known (p .last)) 8 → b ≡ false
+pub join-unwaiting : (known : List ℕ) (p : Post) (b : Bool) (r : Joined) → b ≡ allBelow (sameAt known (p .last)) 8 → b ≡ true
     → r ≡ record { logged = min (p .logged) 128; count = 0 }
     → _≡_ {A = NewLog} (record { log = p .log; logged = r .logged; count = r .count }) (dueLogFrom known p)
 join-unwaiting known p b r e f q = rw q (none-waits known p (sym e ∙ f))
@@ -88,6 +88,9 @@ unfolding knownAfter knownBelow
 known-passes known p e = let z : p .logged - p .logged ≡ 0 = omega arith in rw (← e, z)
 
 -- `deliver`
-pub deliver-is : (p : Post) (new : NewLog) → new ≡ joinedFrom (replicate 8 0) p
+pub deliver-is : (p : Post) (old : ℕ) (known : List ℕ) (new : NewLog) → old ≡ min (p .logged) 128 → known ≡ knownBelow (replicate 8 0) (p .log) 0 (old - 0)
+    → new ≡ joinedFrom known p
     → _≡_ {A = Delivered} (record { post = withLog p (new .log) (new .logged); count = new .count }) (delivered p)
-deliver-is p new e = rw e (joined-is (replicate 8 0) p (known-none p))
+deliver-is p old known new o k e =
+    let all : Known known p = rw k (below-known (replicate 8 0) p 0 (old - 0) (omega arith) (known-none p)) in
+    rw e (joined-is known p all)

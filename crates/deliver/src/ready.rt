@@ -2,22 +2,42 @@
 use crate::Least;
 use frame::Stamp;
 ghost use mathlib.Core.Path.{_≡_};
-ghost use Prim.Native.Nat.{_<_, min};
+ghost use Prim.Native.Nat.{_+_, _*_, _<_, min};
 ghost use lib.ListN.{getD};
 ghost use Rattle.frame.specs.Lanes.{anyBelow};
-ghost use Rattle.deliver.specs.Loops.{waitsAt, upTo, readyIn, lowered, leastBelow};
+ghost use Rattle.deliver.specs.Delivery.{allBelow};
+ghost use Rattle.deliver.specs.Loops.{sameAt, fourOf, eightOf, Bytes, upTo, readyIn, lowered, leastBelow};
 
-// Whether any lane has orders taken that are not known to be logged.
-pub(crate) fn any_waits<'a>(known: &'a [u8; 8], last: &'a [u8; 8]) -> bool
-    ensures { λ r. ⌜ r ≡ anyBelow (waitsAt (now (known .entry)) (now (last .entry))) 8 ⌝ }
+// Whether each lane's last order taken is the last one known to be logged: then none waits.
+pub(crate) fn none_waits<'a>(known: &'a [u8; 8], last: &'a [u8; 8]) -> bool
+    ensures { λ r. ⌜ r ≡ allBelow (sameAt (now (known .entry)) (now (last .entry))) 8 ⌝ }
 {
-    let mut waits = false;
-    for lane in 0..8u8 {
-        let logged = cells::last_taken(known, lane);
-        let taken = cells::last_taken(last, lane);
-        waits = waits | (logged.0 < taken.0);
-    }
-    waits
+    eight(known) == eight(last)
+}
+
+// The serials of all lanes as one number, so that they are compared at once.
+fn eight(serials: &[u8; 8]) -> u64
+    ensures { λ r. ⌜ (r ≡ eightOf (now (serials .entry))) × Bytes (now (serials .entry)) 0 × Bytes (now (serials .entry)) 4 ⌝ }
+{
+    four(serials, 0) + 4294967296 * four(serials, 4)
+}
+
+fn four(serials: &[u8; 8], first: u8) -> u64
+    requires { ⌜ first < 5 ⌝ }
+    ensures { λ r. ⌜ (r ≡ fourOf (now (serials .entry)) first) × Bytes (now (serials .entry)) first × (r < 4294967296) ⌝ }
+{
+    let a = serial_of(serials, first);
+    let b = serial_of(serials, first + 1);
+    let c = serial_of(serials, first + 2);
+    let d = serial_of(serials, first + 3);
+    a + 256 * b + 65536 * c + 16777216 * d
+}
+
+fn serial_of(serials: &[u8; 8], lane: u8) -> u64
+    ensures { λ r. ⌜ (r ≡ getD (now (serials .entry)) lane 0) × (r < 256) ⌝ }
+{
+    let serial = cells::last_taken(serials, lane);
+    serial.0 as u64
 }
 
 // The stamp up to which every source has been heard: the least of their entries at the last serial taken.
@@ -55,7 +75,7 @@ fn lower(least: Least, source: bool, heard: Stamp) -> Least
     }
 }
 
-// Whether any of these has a stamp not above the least.
+// Whether any order that waits has a stamp not above the least.
 pub(crate) fn any_ready<'a>(
     known: &'a [u8; 8],
     last: &'a [u8; 8],

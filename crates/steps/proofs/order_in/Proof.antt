@@ -8,7 +8,7 @@ send-requires : tie.Need-send-requires
 send-requires c κs = can-rise _ _ _ _ _ (sym (c .before .before .before .before .before .refusal .ensures) ∙ c .before .before .before .before .if1 .taken)
 
 returns : tie.Need-returns
-returns c = let a = c .before .before .before .before .before .before .before .args in each (λ log. order-took (postOf (a .h) (a .last .now) (a .table .now) (a .stamps .now) (a .words .now) log) _ _ _ _ _ (c .before .before .before .before .before .before .refusal .ensures) (c .before .before .before .before .before .if1 .taken) (c .send .ensures .0) (c .send .ensures .1 .0 log) (c .send .ensures .1 .1 log))
+returns c = let a = c .before .before .before .before .before .before .before .args in let k = c .send in let l = k .last .1 .1 in each (λ log. order-took (postOf (a .h) (a .last .now) (a .table .now) (a .stamps .now) (a .words .now) log) (postOf (k .result .head) (l .0) (l .1 .0) (l .1 .1 .0) (l .1 .1 .1 .0) log) _ _ _ _ (c .before .before .before .before .before .before .refusal .ensures) (c .before .before .before .before .before .if1 .taken) (k .ensures .0) (k .ensures .1 .0 log) (k .ensures .1 .1 log))
 
 returns-2 : tie.Need-returns-2
 returns-2 c = let a = c .before .before .before .args in rw (c .unsent .ensures) (each (λ log. order-stays (postOf (a .h) (a .last .now) (a .table .now) (a .stamps .now) (a .words .now) log) _ _ (c .before .before .refusal .ensures) (c .before .if1 .left)))

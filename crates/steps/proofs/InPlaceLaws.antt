@@ -12,7 +12,9 @@ use Rattle.deliver.specs.Delivery.{delivered}
 use Rattle.steps.specs.Refusals.{isOrder, isNext, orderRefusal, hearRefusal}
 use Rattle.steps.specs.Steps.{orderSent, orderStep, hearTaken, otherAnswer, hearOther, hearStep}
 use Rattle.steps.specs.Answers.{orderNumber, hearNumber}
-use Rattle.steps.specs.InPlace.{orderTook, hearTook}
+use Rattle.steps.specs.InPlace.{orderTook, hearTook, passedAnswer}
+use Rattle.steps.specs.declared.OrderAnswer as orders
+use Rattle.steps.specs.declared.HearAnswer as hearings
 
 -- the post that an order leaves is what it took, delivered
 pub order-delivers : (p : Post) (word : ℕ) → orderStep p word .post ≡ cond (eqb (orderRefusal p) 0) (delivered (orderTook p word) .post) p
@@ -57,6 +59,34 @@ hear-number p f = go (eqb (hearRefusal p f) 0) (isNext f (lastOf p (f .lane))) r
     go : (b t : Bool) → eqb (hearRefusal p f) 0 ≡ b → isNext f (lastOf p (f .lane)) ≡ t → hearNumber (hearStep p f .answer) ≡ hearRefusal p f
     go true true e s = rw (e, s) (sym (eqb-true (hearRefusal p f) 0 e))
     go true false e s = rw (e, s, eqb-true (hearRefusal p f) 0 e) (other-number f (lastOf p (f .lane)) (delivered (raisedPost p f) .count))
+    go false t e s = rw e
+
+-- an answer by what was taken and how many were delivered
+pub order-answers : (p : Post) (word : ℕ)
+    → orderStep p word .answer
+    ≡ cond (eqb (orderRefusal p) 0) (orders.the-variants.Sent (orderTook p word .serial) (orderTook p word .clock) (delivered (orderTook p word) .count))
+    (orders.the-variants.Refused (orderRefusal p))
+unfolding orderStep orderSent orderTook
+order-answers p word = go (eqb (orderRefusal p) 0) refl
+  where
+    go : (b : Bool) → eqb (orderRefusal p) 0 ≡ b
+        → orderStep p word .answer
+        ≡ cond (eqb (orderRefusal p) 0) (orders.the-variants.Sent (orderTook p word .serial) (orderTook p word .clock) (delivered (orderTook p word) .count))
+        (orders.the-variants.Refused (orderRefusal p))
+    go true e = rw e
+    go false e = rw e
+
+pub hear-answers : (p : Post) (f : Frame)
+    → hearStep p f .answer
+    ≡ cond (eqb (hearRefusal p f) 0) (passedAnswer f (lastOf p (f .lane)) (delivered (hearTook p f) .count)) (hearings.the-variants.Refused (hearRefusal p f))
+unfolding hearStep hearTaken hearOther hearTook
+hear-answers p f = go (eqb (hearRefusal p f) 0) (isNext f (lastOf p (f .lane))) refl refl
+  where
+    go : (b t : Bool) → eqb (hearRefusal p f) 0 ≡ b → isNext f (lastOf p (f .lane)) ≡ t
+        → hearStep p f .answer
+        ≡ cond (eqb (hearRefusal p f) 0) (passedAnswer f (lastOf p (f .lane)) (delivered (hearTook p f) .count)) (hearings.the-variants.Refused (hearRefusal p f))
+    go true true e s = rw (e, s)
+    go true false e s = rw (e, s)
     go false t e s = rw e
 
 -- before delivery the log is as it was

@@ -190,16 +190,15 @@ pub fn hear_in(
         before,
         f,
     );
-    if number == 0 {
-        if hearing::is_next(f, serial) {
-            hearing::take(h, f, last, table, stamps, words)
-        } else {
-            let entries = f.entries;
-            post::raise_all(table, entries);
-            unsent(0, h)
-        }
+    if number != 0 {
+        return unsent(number, h);
+    }
+    if hearing::is_next(f, serial) {
+        hearing::take(h, f, last, table, stamps, words)
     } else {
-        unsent(number, h)
+        let entries = f.entries;
+        post::raise_all(table, entries);
+        unsent(0, h)
     }
 }
 

@@ -6,7 +6,7 @@ use Rattle.steps.proofs.ordering.send.Statement.{statement}
 use Rattle.steps.proofs.ordering.send.Tie as tie
 
 returns : tie.Need-returns
-returns c = (refl, (c .before .before .before .before .take-own .ensures, λ log. send-frame (postOf (c .before .before .before .before .before .before .before .before .before .args .h) (c .before .before .before .before .before .before .before .before .before .args .last .now) (c .before .before .before .before .before .before .before .before .before .args .table .now) (c .before .before .before .before .before .before .before .before .before .args .stamps .now) (c .before .before .before .before .before .before .before .before .before .args .words .now) log) _ _ _ (c .before .before .before .before .take-own .ensures log) (c .before .before .newest-entries .ensures)))
+returns c = let a = c .before .before .before .before .before .before .before .before .before .args in let k = c .before .before .before .before .take-own in let l = k .last .1 .1 in (refl, (k .ensures, λ log. send-frame (postOf (a .h) (a .last .now) (a .table .now) (a .stamps .now) (a .words .now) log) (postOf (k .result) (l .0) (l .1 .0) (l .1 .1 .0) (l .1 .1 .1 .0) log) _ _ (k .ensures log) (c .before .before .newest-entries .ensures)))
 
 pub send-spec : {M : Type 1} → statement M
 send-spec = tie.close (tie.spec (λ c κs. search needs) (λ c κs. tt) returns)

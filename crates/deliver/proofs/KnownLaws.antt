@@ -55,7 +55,7 @@ at-some test (suc n) i h e = go (ℕ-discrete i n) (λ l. at-some test n i l e)
 
 -- nothing is
 pub known-none : (p : Post) → Known (replicate 8 0) p
-known-none p i k h l = absurd (omega (arith, getD-replicate {A = ℕ} 8 i 0 0 h))
+known-none p = record { logged = λ i k h l. absurd (omega (arith, getD-replicate {A = ℕ} 8 i 0 0 h)) }
 
 logged-same : (p q : Post) (place : ℕ) → q .log ≡ p .log → q .logged ≡ p .logged → isLogged q place ≡ isLogged p place
 unfolding isLogged
@@ -63,7 +63,7 @@ logged-same p q place e l = rw (e, l)
 
 -- it is a matter of the log alone
 pub known-log : (known : List ℕ) (p q : Post) → q .log ≡ p .log → q .logged ≡ p .logged → Known known p → Known known q
-known-log known p q e l h i k a b = logged-same p q (i * 16 + k) e l ∙ h i k a b
+known-log known p q e l h = record { logged = λ i k a b. logged-same p q (i * 16 + k) e l ∙ h .logged i k a b }
 
 -- ---- a delivery
 
@@ -89,7 +89,7 @@ due-from known p place h all = go (ltb (place % 16) (getD known (place / 16) 0))
 
     go : (b : Bool) → ltb (place % 16) (getD known (place / 16) 0) ≡ b → (due && not b) ≡ due
     go true e =
-        let l = all (place / 16) (place % 16) (omega arith) (ltb-true (place % 16) (getD known (place / 16) 0) e) in
+        let l = all .logged (place / 16) (place % 16) (omega arith) (ltb-true (place % 16) (getD known (place / 16) 0) e) in
         let m : place / 16 * 16 + place % 16 ≡ place = omega arith in
         and-no due ∙ sym (due-unlogged (isTaken p place) (isLogged p place) (allBelow (agrees p (stampAt p place)) 8) (rw m at l))
     go false e = and-yes due
@@ -160,12 +160,12 @@ advanced-known known p place e all = go (eqb (getD known (place / 16) 0) (place 
     there q l i k a b (yes s) (no t) =
         let g : getD more i 0 ≡ place % 16 + 1 = rw s (getD-set-same known (place / 16) (place % 16 + 1) 0 l) in
         let h : getD known i 0 ≡ place % 16 = rw s q in
-        all i k a (omega arith)
-    there q l i k a b (no s) t = all i k a (rw (getD-set-other known (place / 16) i (place % 16 + 1) 0 s) at b)
+        all .logged i k a (omega arith)
+    there q l i k a b (no s) t = all .logged i k a (rw (getD-set-other known (place / 16) i (place % 16 + 1) 0 s) at b)
 
     next : getD known (place / 16) 0 ≡ place % 16 → Dec (place / 16 < length known) → Known more p
     next q (no l) = rw (set-out known (place / 16) (place % 16 + 1) (omega arith)) all
-    next q (yes l) = λ i k a b. there q l i k a b (ℕ-discrete i (place / 16)) (ℕ-discrete k (place % 16))
+    next q (yes l) = record { logged = λ i k a b. there q l i k a b (ℕ-discrete i (place / 16)) (ℕ-discrete k (place % 16)) }
 
     go : (b : Bool) → eqb (getD known (place / 16) 0) (place % 16) ≡ b → Known (cond b more known) p
     go true q = next (eqb-true (getD known (place / 16) 0) (place % 16) q) (decLt (place / 16) (length known))
@@ -194,7 +194,7 @@ known-stays known p all = go (isDest p (p .lane))
     old = record { log = p .log; logged = p .logged; count = 0 }
 
     grown : Known known (withLog p (new .log) (new .logged))
-    grown i k a b = logged-stays p vs (new .logged) (i * 16 + k) (omega arith) (all i k a b)
+    grown = record { logged = λ i k a b. logged-stays p vs (new .logged) (i * 16 + k) (omega arith) (all .logged i k a b) }
 
     more : Dec (p .logged ≤ new .logged) → Known (knownBelow known (new .log) (p .logged) (new .logged - p .logged)) (withLog p (new .log) (new .logged))
     more (yes h) = below-known known (withLog p (new .log) (new .logged)) (p .logged) (new .logged - p .logged) (omega arith) grown

@@ -13,8 +13,8 @@ use Rattle.deliver.specs.declared.NewLog.{NewLog}
 use Rattle.deliver.specs.Delivery.{isLogged, isDue, stampAt, sort}
 
 -- `known` has for each lane the serial up to which its orders are known to be logged: all that it says is so
-abbrev pub Known : List ℕ → Post → Type 0
-Known known p = (i k : ℕ) → i < 8 → k < getD known i 0 → isLogged p (i * 16 + k) ≡ true
+pub record Known (known : List ℕ) (p : Post) : Type 0 where
+  pub logged : (i k : ℕ) → i < 8 → k < getD known i 0 → isLogged p (i * 16 + k) ≡ true
 
 -- a due order that is not among those known to be logged
 unfoldable pub isDueFrom : List ℕ → Post → ℕ → Bool

@@ -110,8 +110,7 @@ module _ (s : Sets) (R : Rows) (frames beacons : ℕ) (first air : List ℕ) whe
       let all : world (rowsYard s R₃ f₃ b₂ first) a₃ ≡ singles found (rollSteps found)
       = rw (singles-append, singles-append, ← e₁, ← e₂) e₃
       in
-      let c = call-runs (rowsYard s R frames beacons first) air left (yardRan found (rollSteps found)) (singles found (rollSteps found) .air) good e enough refl refl in
-      (
+      let c = call-runs (rowsYard s R frames beacons first) air left (yardRan found (rollSteps found)) (singles found (rollSteps found) .air) good e enough refl refl in (
         rw (← (c .0)),
         ap (λ (w : World). w .yard) all ∙ rw (← (c .0)),
         ap (λ (w : World). w .air) all ∙ c .1,

@@ -19,23 +19,36 @@ ghost use Rattle.script.specs.Rows.{rows, rowsYard, Good};
 pub(crate) fn sets_of(l: Line) -> Sets
     ensures { λ r. ⌜ r ≡ setsOf l ⌝ }
 {
-    if let Line::Yard {
-        posts,
-        sources,
-        dests,
-        next: _,
-    } = l {
-        Sets {
-            present: posts,
-            sources: sources,
-            dests: dests,
-        }
-    } else {
-        Sets {
-            present: 0,
-            sources: 0,
-            dests: 0,
-        }
+    match l {
+        Line::Yard {
+            posts,
+            sources,
+            dests,
+            next: _,
+        } => sets(posts, sources, dests),
+        Line::Order {
+            lane: _,
+            word: _,
+            next: _,
+        } => sets(0, 0, 0),
+        Line::Hear {
+            lane: _,
+            frame: _,
+            next: _,
+        } => sets(0, 0, 0),
+        Line::Beacon { lane: _, next: _ } => sets(0, 0, 0),
+        Line::Roll { next: _ } => sets(0, 0, 0),
+        Line::Refused(_) => sets(0, 0, 0),
+    }
+}
+
+fn sets(present: u8, sources: u8, dests: u8) -> Sets
+    ensures { λ r. ⌜ r ≡ record { present = present; sources = sources; dests = dests } ⌝ }
+{
+    Sets {
+        present: present,
+        sources: sources,
+        dests: dests,
     }
 }
 

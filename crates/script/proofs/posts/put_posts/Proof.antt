@@ -1,53 +1,47 @@
+use Rattle.text.specs.Writing.{out, wrote}
+use Rattle.meaning.specs.Texts.{postsText}
+use Rattle.script.specs.Rows.{rows, rowsYard}
+use Rattle.script.proofs.PrintLaws.{posts-more}
+use lib.ListN.{length}
+use Prim.Native.Nat.{ℕ, _≤_, _-_}
+use mathlib.Core.List.{List}
+use mathlib.Core.Path.{_≡_, _∙_, refl}
+use native.Mathlib.Omega.{arith}
+use borrow.Author.Needs.{needs}
 use Rattle.script.proofs.posts.put_posts.Statement.{statement}
 use Rattle.script.proofs.posts.put_posts.Tie as tie
-use Rattle.script.proofs.posts.put_posts.Reads as reads
-use Rattle.script.proofs.posts.put_posts.Lts as lts
-use Rattle.script.proofs.posts.put_row.Reads as put-row-reads
 
 abbrev Inv-loop : tie.InvT-loop
-Inv-loop output₀ to s clocks serials loggeds stamps words logs a₀ lane₀ output a lane = ?
+Inv-loop output₀ to s clocks serials loggeds stamps words logs a₀ lane₀ output a lane =
+    (lane ≤ 8)
+    × ((lasts tables knowns : List (List ℕ)) (frames beacons : ℕ) (first : List ℕ)
+    → out output a ≡ wrote (out output₀ to) (postsText (rowsYard s (rows clocks serials loggeds lasts tables stamps words logs knowns) frames beacons first) lane))
+    × (length output ≡ length output₀)
 
 abbrev μ-loop : tie.MeasureT-loop
-μ-loop output₀ to s clocks serials loggeds stamps words logs a₀ lane₀ output a lane = ?
+μ-loop output₀ to s clocks serials loggeds stamps words logs a₀ lane₀ output a lane = 8 - lane
 
--- src/posts.rt:31:5
 loop-holds : tie.Need-loop-holds Inv-loop μ-loop
-loop-holds c = ?
+unfolding wrote postsText
+loop-holds c = (omega arith, (λ lasts tables knowns frames beacons first. refl), refl)
 
--- src/posts.rt:32:9
 put-row-requires : tie.Need-put-row-requires Inv-loop μ-loop
-put-row-requires c κs = ?
+put-row-requires c κs = c .before .loop-test .taken
 
--- src/posts.rt:31:9
-add-lane : tie.Need-add-lane Inv-loop μ-loop
-add-lane c = ?
-
--- src/posts.rt:31:5
-loop-less : tie.Need-loop-less Inv-loop μ-loop
-loop-less c = ?
-
--- src/posts.rt:31:5
 loop-again : tie.Need-loop-again Inv-loop μ-loop
-loop-again c = ?
+loop-again c = (
+  omega arith,
+  (λ lasts tables knowns frames beacons first. posts-more _ _ _ (c .before .before .before .before .before .before .before .args .s) (rows (c .before .before .before .before .before .before .before .args .clocks .now) (c .before .before .before .before .before .before .before .args .serials .now) (c .before .before .before .before .before .before .before .args .loggeds .now) lasts tables (c .before .before .before .before .before .before .before .args .stamps .now) (c .before .before .before .before .before .before .before .args .words .now) (c .before .before .before .before .before .before .before .args .logs .now) knowns) frames beacons first _ (c .before .before .before .before .loop-test .taken) (c .before .before .before .before .before .loop .inv .1 lasts tables knowns frames beacons first) (c .before .before .put-row .ensures lasts tables knowns)),
+  c .before .before .put-row .kept .0 ∙ c .before .before .before .before .before .loop .inv .2,
+)
 
--- src/posts.rt:17:1
 same-length : tie.Need-same-length Inv-loop μ-loop
-same-length c = ?
+same-length c = c .before .loop .inv .2
 
--- src/posts.rt:17:1
 returns : tie.Need-returns Inv-loop μ-loop
-returns c = ?
+returns c =
+    let e : c .before .loop .lane ≡ 8 = omega arith in
+    λ lasts tables knowns frames beacons first. rw e at (c .before .loop .inv .1 lasts tables knowns frames beacons first)
 
 pub put-posts-spec : {M : Type 1} → statement M
-put-posts-spec =
-    tie.close
-    (tie.spec
-    Inv-loop
-    μ-loop
-    loop-holds
-    put-row-requires
-    add-lane
-    loop-less
-    loop-again
-    same-length
-    returns)
+put-posts-spec = tie.close (tie.spec Inv-loop μ-loop loop-holds put-row-requires (λ c. search needs) (λ c. search needs) loop-again same-length returns)

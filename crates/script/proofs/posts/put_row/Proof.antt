@@ -1,87 +1,15 @@
-use borrow.Author.Needs.{needs}
+use Rattle.script.specs.Rows.{rows}
+use Rattle.script.proofs.PrintLaws.{row-none, row-printed}
+use borrow.Author.Needs.{needs, scaled-fits}
+use lib.Dec.{lit<}
 use Rattle.script.proofs.posts.put_row.Statement.{statement}
 use Rattle.script.proofs.posts.put_row.Tie as tie
-use Rattle.script.proofs.posts.put_row.Reads as reads
-use Rattle.script.proofs.posts.put_row.Lts as lts
-use Rattle.cells.proofs.has.Reads as has-reads
-use Rattle.printout.proofs.put_post.Reads as put-post-reads
 
--- src/posts.rt:64:9
-has-requires : tie.Need-has-requires
-has-requires c κs = search needs
-
--- src/posts.rt:65:9
 returns : tie.Need-returns
-returns c = ?
+returns c = λ lasts tables knowns. row-none _ (c .before .before .before .args .s) (rows (c .before .before .before .args .clocks .now) (c .before .before .before .args .serials .now) (c .before .before .before .args .loggeds .now) lasts tables (c .before .before .before .args .stamps .now) (c .before .before .before .args .words .now) (c .before .before .before .args .logs .now) knowns) (c .before .before .before .args .lane) _ (c .before .has .ensures) (c .if1 .taken)
 
--- src/posts.rt:73:22
-mul-t15 : tie.Need-mul-t15
-mul-t15 c = search needs
-
--- src/posts.rt:73:22
-element-copy-out-t18 : tie.Need-element-copy-out-t18
-element-copy-out-t18 c = search needs
-
--- src/posts.rt:74:24
-element-copy-out-t22 : tie.Need-element-copy-out-t22
-element-copy-out-t22 c = search needs
-
--- src/posts.rt:75:17
-element-copy-out-t26 : tie.Need-element-copy-out-t26
-element-copy-out-t26 c = search needs
-
--- src/posts.rt:77:39
-mul-put-post : tie.Need-mul-put-post
-mul-put-post c = search needs
-
--- src/posts.rt:77:39
-index-1-put-post : tie.Need-index-1-put-post
-index-1-put-post c = search needs
-
--- src/posts.rt:77:51
-mul-put-post-2 : tie.Need-mul-put-post-2
-mul-put-post-2 c = search needs
-
--- src/posts.rt:77:51
-index-1-put-post-2 : tie.Need-index-1-put-post-2
-index-1-put-post-2 c = search needs
-
--- src/posts.rt:77:62
-mul-put-post-3 : tie.Need-mul-put-post-3
-mul-put-post-3 c = search needs
-
--- src/posts.rt:77:62
-index-1-put-post-3 : tie.Need-index-1-put-post-3
-index-1-put-post-3 c = search needs
-
--- src/posts.rt:77:5
-put-post-requires : tie.Need-put-post-requires
-put-post-requires c κs = search needs
-
--- src/posts.rt:49:1
-same-length : tie.Need-same-length
-same-length c = search needs
-
--- src/posts.rt:49:1
 returns-2 : tie.Need-returns-2
-returns-2 c = ?
+returns-2 c = λ lasts tables knowns. row-printed _ _ (c .before .before .before .before .before .before .before .before .before .before .before .before .before .args .s) (rows (c .before .before .before .before .before .before .before .before .before .before .before .before .before .args .clocks .now) (c .before .before .before .before .before .before .before .before .before .before .before .before .before .args .serials .now) (c .before .before .before .before .before .before .before .before .before .before .before .before .before .args .loggeds .now) lasts tables (c .before .before .before .before .before .before .before .before .before .before .before .before .before .args .stamps .now) (c .before .before .before .before .before .before .before .before .before .before .before .before .before .args .words .now) (c .before .before .before .before .before .before .before .before .before .before .before .before .before .args .logs .now) knowns) (c .before .before .before .before .before .before .before .before .before .before .before .before .before .args .lane) _ (c .before .before .before .before .before .before .before .before .before .before .before .has .ensures) (c .before .before .before .before .before .before .before .before .before .before .if1 .left) (c .before .before .put-post .ensures _ _)
 
 pub put-row-spec : {M : Type 1} → statement M
-put-row-spec =
-    tie.close
-    (tie.spec
-    has-requires
-    returns
-    mul-t15
-    element-copy-out-t18
-    element-copy-out-t22
-    element-copy-out-t26
-    mul-put-post
-    index-1-put-post
-    mul-put-post-2
-    index-1-put-post-2
-    mul-put-post-3
-    index-1-put-post-3
-    put-post-requires
-    same-length
-    returns-2)
+put-row-spec = tie.close (tie.spec (λ c κs. tt) returns (λ c. scaled-fits _ 8 _ (c .before .before .before .pre) (lit< tt)) (λ c. c .before .before .before .pre) (λ c. c .before .before .before .before .pre) (λ c. c .before .before .before .before .before .pre) (λ c. scaled-fits _ 8 _ (c .before .before .before .before .before .before .before .pre) (lit< tt)) (λ c. c .before .before .before .before .before .before .before .pre) (λ c. scaled-fits _ 8 _ (c .before .before .before .before .before .before .before .before .pre) (lit< tt)) (λ c. c .before .before .before .before .before .before .before .before .pre) (λ c. scaled-fits _ 8 _ (c .before .before .before .before .before .before .before .before .before .pre) (lit< tt)) (λ c. c .before .before .before .before .before .before .before .before .before .pre) (λ c κs. tt) (λ c. search needs) returns-2)

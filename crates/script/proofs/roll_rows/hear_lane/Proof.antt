@@ -4,13 +4,13 @@ use Rattle.script.proofs.roll_rows.hear_lane.Statement.{statement}
 use Rattle.script.proofs.roll_rows.hear_lane.Tie as tie
 
 returns : tie.Need-returns
-returns c = lane-own _ _ _ _ (c .args .first .now) (c .args .sent .now) (c .args .p) (c .args .q) (c .if1 .taken) (c .pre)
+returns c = lane-own _ _ _ _ (c .before .before .args .first .now) (c .before .before .args .sent .now) (c .before .before .args .p) (c .before .before .args .q) (c .if1 .taken) (c .before .before .pre)
 
 hear-serials-requires : tie.Need-hear-serials-requires
-hear-serials-requires c κs = c .pre
+hear-serials-requires c κs = c .before .before .before .before .before .before .before .before .before .before .pre
 
 returns-2 : tie.Need-returns-2
-returns-2 c = lane-other _ _ _ _ _ _ _ (c .args .first .now) (c .args .sent .now) (c .args .p) (c .args .q) _ (c .if1 .left) (c .last-taken .ensures) (c .hear-serials .ensures)
+returns-2 c = lane-other _ _ _ _ _ _ _ (c .before .before .before .before .before .before .before .before .before .before .before .before .before .args .first .now) (c .before .before .before .before .before .before .before .before .before .before .before .before .before .args .sent .now) (c .before .before .before .before .before .before .before .before .before .before .before .before .before .args .p) (c .before .before .before .before .before .before .before .before .before .before .before .before .before .args .q) _ (c .before .before .before .before .before .before .before .before .before .before .before .if1 .left) (c .before .before .before .before .before .before .before .before .before .before .last-taken .ensures) (c .before .before .hear-serials .ensures)
 
 pub hear-lane-spec : {M : Type 1} → statement M
-hear-lane-spec = tie.close (tie.spec returns)
+hear-lane-spec = tie.close (tie.spec returns (λ c κs. tt) hear-serials-requires (λ c. search needs) returns-2)

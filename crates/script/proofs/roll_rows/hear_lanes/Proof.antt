@@ -21,25 +21,25 @@ abbrev μ-loop : tie.MeasureT-loop
 
 loop-holds : tie.Need-loop-holds Inv-loop μ-loop
 unfolding lanesFrames
-loop-holds c = (omega arith, heard-none _ _ _ _ (c .pre), refl)
+loop-holds c = (omega arith, heard-none _ _ _ _ (c .before .pre), refl)
 
 hear-lane-requires : tie.Need-hear-lane-requires Inv-loop μ-loop
-hear-lane-requires c κs = c .loop .inv .1 .1
+hear-lane-requires c κs = c .before .before .before .before .before .before .before .before .loop .inv .1 .1
 
 loop-again : tie.Need-loop-again Inv-loop μ-loop
 loop-again c = (
   omega arith,
-  lanes-more _ _ _ _ _ _ _ _ _ _ _ _ _ _ _ (c .loop .inv .1) (c .hear-lane .ensures),
-  c .hear-lane .kept .1 .0 ∙ c .loop .inv .2,
+  lanes-more _ _ _ _ _ _ _ _ _ _ _ _ _ _ _ (c .before .before .before .before .before .before .before .before .before .before .before .before .loop .inv .1) (c .before .before .before .hear-lane .ensures),
+  c .before .before .before .hear-lane .kept .1 .0 ∙ c .before .before .before .before .before .before .before .before .before .before .before .before .loop .inv .2,
 )
 
 same-length : tie.Need-same-length Inv-loop μ-loop
-same-length c = c .loop .inv .2
+same-length c = c .before .loop .inv .2
 
 returns : tie.Need-returns Inv-loop μ-loop
 returns c =
-    let e : c .loop .q ≡ 8 = omega arith in
-    rw e at (c .loop .inv .1)
+    let e : c .before .loop .q ≡ 8 = omega arith in
+    rw e at (c .before .loop .inv .1)
 
 pub hear-lanes-spec : {M : Type 1} → statement M
-hear-lanes-spec = tie.close (tie.spec Inv-loop)
+hear-lanes-spec = tie.close (tie.spec Inv-loop μ-loop loop-holds hear-lane-requires (λ c. search needs) (λ c. search needs) loop-again same-length returns)

@@ -4,10 +4,10 @@ use Rattle.script.proofs.roll_rows.hear_source.Statement.{statement}
 use Rattle.script.proofs.roll_rows.hear_source.Tie as tie
 
 returns : tie.Need-returns
-returns c = source-other _ _ _ _ _ _ _ _ _ (c .args .sources) (c .args .p) (c .args .i) _ _ (c .pre) (c .has .ensures) (c .if1 .taken) (c .hear .ensures)
+returns c = source-other _ _ _ _ _ _ _ _ _ (c .before .before .before .before .before .before .before .before .before .before .before .before .before .before .args .sources) (c .before .before .before .before .before .before .before .before .before .before .before .before .before .before .args .p) (c .before .before .before .before .before .before .before .before .before .before .before .before .before .before .args .i) _ _ (c .before .before .before .before .before .before .before .before .before .before .before .before .before .before .pre) (c .before .before .before .before .before .before .before .before .before .before .before .before .has .ensures) (c .before .before .before .before .before .before .before .before .before .before .before .if1 .taken) (c .before .before .before .hear .ensures)
 
 returns-2 : tie.Need-returns-2
-returns-2 c = source-own _ _ _ _ (c .args .sources) (c .args .p) (c .args .i) (c .args .k) _ (c .pre) (c .has .ensures) (c .if1 .left)
+returns-2 c = source-own _ _ _ _ (c .before .before .before .args .sources) (c .before .before .before .args .p) (c .before .before .before .args .i) (c .before .before .before .args .k) _ (c .before .before .before .pre) (c .before .has .ensures) (c .if1 .left)
 
 pub hear-source-spec : {M : Type 1} → statement M
-hear-source-spec = tie.close (tie.spec returns)
+hear-source-spec = tie.close (tie.spec (λ c κs. tt) (λ c κs. tt) (λ c. search needs) returns returns-2)

@@ -1,67 +1,17 @@
-use borrow.Author.Needs.{needs}
+use Rattle.script.specs.Rows.{rows}
+use Rattle.script.proofs.RollLaws.{sent-one, sent-none}
+use Rattle.script.proofs.TestLaws.{not-false, not-true}
+use borrow.Author.Needs.{needs, scaled-fits}
+use lib.Dec.{lit<}
 use Rattle.script.proofs.roll_rows.send_beacon.Statement.{statement}
 use Rattle.script.proofs.roll_rows.send_beacon.Tie as tie
-use Rattle.script.proofs.roll_rows.send_beacon.Reads as reads
-use Rattle.script.proofs.roll_rows.send_beacon.Lts as lts
-use Rattle.cells.proofs.has.Reads as has-reads
-use Rattle.lane_steps.proofs.beacon.Reads as beacon-reads
 
--- src/roll_rows.rt:382:9
-has-requires : tie.Need-has-requires
-has-requires c κs = search needs
-
--- src/roll_rows.rt:383:9
 returns : tie.Need-returns
-returns c = ?
+returns c = λ first lasts stamps words logs knowns. sent-none (c .before .before .before .args .s) _ (c .before .before .before .args .lane) _ _ (c .before .has .ensures) (not-true _ (c .if1 .taken))
 
--- src/roll_rows.rt:391:22
-mul-t14 : tie.Need-mul-t14
-mul-t14 c = search needs
-
--- src/roll_rows.rt:391:22
-element-copy-out-t17 : tie.Need-element-copy-out-t17
-element-copy-out-t17 c = search needs
-
--- src/roll_rows.rt:392:24
-element-copy-out-t21 : tie.Need-element-copy-out-t21
-element-copy-out-t21 c = search needs
-
--- src/roll_rows.rt:393:17
-element-copy-out-t25 : tie.Need-element-copy-out-t25
-element-copy-out-t25 c = search needs
-
--- src/roll_rows.rt:395:74
-mul-beacon : tie.Need-mul-beacon
-mul-beacon c = search needs
-
--- src/roll_rows.rt:395:74
-index-1-beacon : tie.Need-index-1-beacon
-index-1-beacon c = search needs
-
--- src/roll_rows.rt:395:9
-beacon-requires : tie.Need-beacon-requires
-beacon-requires c κs = search needs
-
--- src/roll_rows.rt:369:1
-same-length : tie.Need-same-length
-same-length c = search needs
-
--- src/roll_rows.rt:369:1
 returns-2 : tie.Need-returns-2
-returns-2 c = ?
+returns-2 c = λ first lasts stamps words logs knowns.
+    sent-one (c .before .before .before .before .before .before .before .before .before .before .before .args .s) (rows (c .before .before .before .before .before .before .before .before .before .before .before .args .clocks .now) (c .before .before .before .before .before .before .before .before .before .before .before .args .serials .now) (c .before .before .before .before .before .before .before .before .before .before .before .args .loggeds .now) lasts (c .before .before .before .before .before .before .before .before .before .before .before .args .tables .now) stamps words logs knowns) (c .before .before .before .before .before .before .before .before .before .before .before .args .lane) _ _ first _ _ _ _ (c .before .before .before .before .before .before .before .before .before .before .before .pre) (c .before .before .before .before .before .before .before .before .before .has .ensures) (not-false _ (c .before .before .before .before .before .before .before .before .if1 .left)) (c .before .before .beacon .ensures .0 _ _ _ _) (c .before .before .beacon .ensures .1 _ _ _ _)
 
 pub send-beacon-spec : {M : Type 1} → statement M
-send-beacon-spec =
-    tie.close
-    (tie.spec
-    has-requires
-    returns
-    mul-t14
-    element-copy-out-t17
-    element-copy-out-t21
-    element-copy-out-t25
-    mul-beacon
-    index-1-beacon
-    beacon-requires
-    same-length
-    returns-2)
+send-beacon-spec = tie.close (tie.spec (λ c κs. tt) returns (λ c. scaled-fits _ 8 _ (c .before .before .before .pre) (lit< tt)) (λ c. c .before .before .before .pre) (λ c. c .before .before .before .before .pre) (λ c. c .before .before .before .before .before .pre) (λ c. scaled-fits _ 8 _ (c .before .before .before .before .before .before .before .pre) (lit< tt)) (λ c. c .before .before .before .before .before .before .before .pre) (λ c κs. tt) (λ c. search needs) returns-2)

@@ -15,4 +15,4 @@ returns-2 c = λ first lasts stamps words logs knowns.
     (c .beacon-number .ensures ∙ ran .0, ran .1, ran .2)
 
 pub beacon-spec : {M : Type 1} → statement M
-beacon-spec = tie.close (tie.spec returns (λ c. search needs) (λ c. search needs) (λ c. search needs) (λ c. search needs) (λ c. search needs) (λ c. search needs) (λ c κs. tt) (λ c κs. tt) (λ c. search needs) returns-2)
+beacon-spec = tie.close (tie.spec returns (λ c. scaled-fits _ 8 _ (c .if1 .left) (lit< tt)) (λ c. c .if1 .left) (λ c. c .before .if1 .left) (λ c. c .before .before .if1 .left) (λ c. scaled-fits _ 8 _ (c .before .before .before .before .if1 .left) (lit< tt)) (λ c. c .before .before .before .before .if1 .left) (λ c κs. tt) (λ c κs. tt) (λ c. search needs) returns-2)

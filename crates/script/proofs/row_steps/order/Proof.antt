@@ -11,4 +11,4 @@ returns-2 : tie.Need-returns-2
 returns-2 c = order-row (c .before .before .before .before .before .before .before .before .before .before .before .before .before .before .before .before .before .before .args .s) _ _ (c .before .before .before .before .before .before .before .before .before .before .before .before .before .before .before .before .if1 .left) (c .before .before .before .before .before .before .before .before .before .before .before .before .before .before .before .before .before .before .pre) _ _ _ _ _ _ _ _ _ _ _ _ _ _ _ (c .before .before .before .before .before .order .ensures) (c .note-first .ensures)
 
 pub order-spec : {M : Type 1} → statement M
-order-spec = tie.close (tie.spec returns (λ c. search needs) (λ c. search needs) (λ c. search needs) (λ c. search needs) (λ c. search needs) (λ c. search needs) (λ c. search needs) (λ c. search needs) (λ c. search needs) (λ c. search needs) (λ c. search needs) (λ c. search needs) (λ c. search needs) (λ c. search needs) (λ c. search needs) (λ c. search needs) (λ c κs. tt) (λ c κs. tt) (λ c. search needs) (λ c. search needs) (λ c. search needs) (λ c. search needs) (λ c. search needs) returns-2)
+order-spec = tie.close (tie.spec returns (λ c. scaled-fits _ 8 _ (c .if1 .left) (lit< tt)) (λ c. c .if1 .left) (λ c. c .before .if1 .left) (λ c. c .before .before .if1 .left) (λ c. scaled-fits _ 8 _ (c .before .before .before .before .if1 .left) (lit< tt)) (λ c. c .before .before .before .before .if1 .left) (λ c. scaled-fits _ 8 _ (c .before .before .before .before .before .if1 .left) (lit< tt)) (λ c. c .before .before .before .before .before .if1 .left) (λ c. scaled-fits _ 8 _ (c .before .before .before .before .before .before .if1 .left) (lit< tt)) (λ c. c .before .before .before .before .before .before .if1 .left) (λ c. scaled-fits _ 8 _ (c .before .before .before .before .before .before .before .if1 .left) (lit< tt)) (λ c. c .before .before .before .before .before .before .before .if1 .left) (λ c. scaled-fits _ 8 _ (c .before .before .before .before .before .before .before .before .if1 .left) (lit< tt)) (λ c. c .before .before .before .before .before .before .before .before .if1 .left) (λ c. scaled-fits _ 8 _ (c .before .before .before .before .before .before .before .before .before .if1 .left) (lit< tt)) (λ c. c .before .before .before .before .before .before .before .before .before .if1 .left) (λ c κs. tt) (λ c κs. tt) (λ c. scaled-fits _ 8 _ (c .before .before .before .before .before .before .before .before .before .before .before .before .before .before .before .before .if1 .left) (lit< tt)) (λ c. c .before .before .before .before .before .before .before .before .before .before .before .before .before .before .before .before .if1 .left) (λ c. c .before .before .before .before .before .before .before .before .before .before .before .before .before .before .before .before .if1 .left) (λ c. c .before .before .before .before .before .before .before .before .before .before .before .before .before .before .before .before .if1 .left) (λ c. search needs) returns-2)

@@ -1,0 +1,52 @@
+use Rattle.yard.specs.Worlds.{singles}
+use Rattle.roll.specs.RollCall.{postsHearBeacons}
+use Rattle.roll.specs.Loops.{world}
+use Rattle.script.specs.Rows.{rows, rowsYard, Good}
+use Rattle.script.proofs.RollLaws.{beacons-more}
+use lib.ListN.{length}
+use Prim.Native.Nat.{ℕ, _≤_, _-_}
+use mathlib.Core.List.{List}
+use mathlib.Core.Path.{_≡_, _∙_, refl}
+use native.Mathlib.Omega.{arith}
+use borrow.Author.Needs.{needs}
+use Rattle.script.proofs.roll_rows.hear_beacons.Statement.{statement}
+use Rattle.script.proofs.roll_rows.hear_beacons.Tie as tie
+
+abbrev Inv-loop : tie.InvT-loop
+Inv-loop s clocks₀ serials loggeds₀ lasts₀ tables₀ stamps₀ words₀ logs₀ knowns₀ air₀ frames from on-air₀ p₀ clocks loggeds lasts tables stamps words logs knowns air on-air p =
+    (p ≤ 8)
+    × ((beacons : ℕ) (first : List ℕ)
+    → world (rowsYard s (rows clocks serials loggeds lasts tables stamps words logs knowns) on-air beacons first) air
+    ≡ singles (world (rowsYard s (rows clocks₀ serials loggeds₀ lasts₀ tables₀ stamps₀ words₀ logs₀ knowns₀) frames beacons first) air₀)
+    (postsHearBeacons (s .present) (s .sources) from p))
+    × Good s (rows clocks serials loggeds lasts tables stamps words logs knowns)
+    × (length air ≡ length air₀)
+
+abbrev μ-loop : tie.MeasureT-loop
+μ-loop s clocks₀ serials loggeds₀ lasts₀ tables₀ stamps₀ words₀ logs₀ knowns₀ air₀ frames from on-air₀ p₀ clocks loggeds lasts tables stamps words logs knowns air on-air p = 8 - p
+
+loop-holds : tie.Need-loop-holds Inv-loop μ-loop
+unfolding postsHearBeacons singles
+loop-holds c = (omega arith, (λ beacons first. refl), c .before .pre, refl)
+
+post-hears-beacons-requires : tie.Need-post-hears-beacons-requires Inv-loop μ-loop
+post-hears-beacons-requires c κs = (c .before .before .before .before .before .before .before .before .before .loop-test .taken, c .before .before .before .before .before .before .before .before .before .before .loop .inv .2)
+
+loop-again : tie.Need-loop-again Inv-loop μ-loop
+loop-again c = (
+  omega arith,
+  (λ beacons first. beacons-more _ _ _ _ _ _ _ (c .before .before .before .before .before .before .before .before .before .before .before .before .before .loop .inv .1 beacons first) (c .before .before .post-hears-beacons .ensures .0 beacons first)),
+  c .before .before .post-hears-beacons .ensures .1,
+  c .before .before .post-hears-beacons .kept .1 .1 .1 .1 .1 .1 .1 .1 .1 .1 .0 ∙ c .before .before .before .before .before .before .before .before .before .before .before .before .before .loop .inv .3,
+)
+
+same-length : tie.Need-same-length Inv-loop μ-loop
+same-length c = c .before .loop .inv .3
+
+returns : tie.Need-returns Inv-loop μ-loop
+returns c =
+    let e : c .before .loop .p ≡ 8 = omega arith in
+    ((λ beacons first. rw e at (c .before .loop .inv .1 beacons first)), c .before .loop .inv .2)
+
+pub hear-beacons-spec : {M : Type 1} → statement M
+hear-beacons-spec = tie.close (tie.spec Inv-loop μ-loop loop-holds post-hears-beacons-requires (λ c. search needs) (λ c. search needs) loop-again same-length returns)

@@ -1,24 +1,33 @@
 -- The ways through `run_good` and `drift_run_script`. Assumes nothing.
-use mathlib.Core.Path.{_≡_, refl, ap, _∙_}
+use mathlib.Core.Path.{_≡_, refl, sym, ap, _∙_}
 use mathlib.Core.Bool.{Bool, true, false, cond}
-use mathlib.Core.List.{List, _++_}
+use mathlib.Core.List.{List, [], _++_}
 use Prim.Native.Nat.{ℕ, _+_, _<_, _≤_}
 use native.Mathlib.Omega.{arith}
 use lib.Dec.{ltb, eqb}
-use lib.ListN.{length, drop}
+use lib.ListN.{length, getD, drop, replicate, getD-replicate}
 use borrow.Author.Tests.{ltb-false, eqb-false, eq-eqb, ne-eqb}
 use Rattle.text.specs.Writing.{Out, out, wrote}
 use Rattle.text.proofs.Laws.{wrote-fits, next}
 use Rattle.lines.specs.declared.Line.{Line}
 use Rattle.lines.specs.declared.Judged.{Judged}
-use Rattle.lines.specs.Lines.{lineAt, nextOf, linesOf, judgedLines, judged}
+use Rattle.lines.specs.declared.Line.the-variants.{Yard, Order, Hear, Beacon, Roll, Refused}
+use Rattle.lines.specs.Lines.{lineAt, numberOf, nextOf, linesOf, judgedLines, judged}
 use Rattle.reader.proofs.LinesLaws.{line-above}
-use Rattle.yard.specs.declared.Yard.{Yard}
+use Rattle.post.specs.declared.Post.{Post}
+use Rattle.deliver.specs.Known.{Known}
+use Rattle.deliver.proofs.KnownLaws.{known-none}
+use Rattle.yard.specs.Yards.{freshYard}
+use Rattle.yard.specs.Worlds.{World}
 use Rattle.meaning.specs.Texts.{badText, postsText}
 use Rattle.meaning.specs.Script.{yardOf, worldAfter, refusedLines, scriptWorld, scriptText, printout, airAfter}
 use Rattle.fits.proofs.Theorem.{fits}
+use Rattle.fits.proofs.LineLengths.{accepted}
+use Rattle.fits.proofs.FirstLine.{yard-made, accepted-first}
 use Rattle.script.specs.Run.{bytesPrinted, outputAfter, airLeft}
-use Rattle.script.specs.Lines.{world, rest}
+use Rattle.script.specs.declared.Sets.{Sets}
+use Rattle.script.specs.Lines.{world, setsOf, rest}
+use Rattle.script.specs.Rows.{Rows, rows, rowPost, rowKnown, rowPosts, rowsYard, Good}
 
 -- a script that is not refused has 1 to 48,000 bytes
 judged-fits : (s : List ℕ) → judged s .number ≡ 0 → (0 < length s) × (length s ≤ 48000)
@@ -39,18 +48,56 @@ second-line s l from h el ef =
     let fit = judged-fits s h in
     (fit .1, line-above s 0 l from (fit .0) el ef)
 
+-- line 1 of a script that is not refused makes the fresh yard of its sets
+fresh-first : (s : List ℕ) (st : Sets) (k : Line) → lineAt s 0 ≡ k → numberOf k ≡ 0 → st ≡ setsOf k
+    → yardOf k ≡ freshYard (st .present) (st .sources) (st .dests)
+fresh-first s st (Yard posts sources dests next) e z es =
+    let r = accepted s 0 (Yard posts sources dests next) e refl .0 in
+    rw es (yard-made posts sources dests (r .1) (r .5) (r .6))
+fresh-first s st (Order lane word next) e z es = absurd (omega (arith, accepted s 0 (Order lane word next) e z .0 .0))
+fresh-first s st (Hear lane frame next) e z es = absurd (omega (arith, accepted s 0 (Hear lane frame next) e z .0 .0))
+fresh-first s st (Beacon lane next) e z es = absurd (omega (arith, accepted s 0 (Beacon lane next) e z .0 .0))
+fresh-first s st (Roll next) e z es = absurd (omega (arith, accepted s 0 (Roll next) e z .0))
+fresh-first s st (Refused number) e z es = absurd (accepted s 0 (Refused number) e z .0)
+
+-- the rows of a fresh yard: all zero, and nothing is known of the logs
+abbrev pub zeroRows : Rows
+zeroRows =
+    rows (replicate 8 0) (replicate 8 0) (replicate 8 0) (replicate 8 (replicate 8 0)) (replicate 8 (replicate 136 0)) (replicate 8 (replicate 128 0))
+    (replicate 8 (replicate 128 0)) (replicate 8 (replicate 128 0)) (replicate 8 (replicate 8 0))
+
+rows-fresh : (st : Sets) → rowsYard st zeroRows 0 0 (replicate 128 0) ≡ freshYard (st .present) (st .sources) (st .dests)
+unfolding rowPosts freshYard
+rows-fresh st = refl
+
+-- a row of zeros for each lane
+zero-row : (i : ℕ) → i < 8 → rowKnown zeroRows i ≡ replicate 8 0
+zero-row i low = getD-replicate {A = List ℕ} 8 i (replicate {A = ℕ} 8 0) [] low
+
+none-known : (known : List ℕ) (p : Post) → known ≡ replicate 8 0 → Known known p
+none-known known p e = rw e (known-none p)
+
+pub zero-good : (st : Sets) → Good st zeroRows
+zero-good st = record {
+  eight = (refl, refl, refl, refl, refl, refl, refl, refl, refl);
+  known = λ i low. none-known (rowKnown zeroRows i) (rowPost st zeroRows i) (zero-row i low);
+}
+
 -- the steps, then the posts
-pub good-ran : (s air exit output : List ℕ) (l : Line) (y last : Yard) (from : ℕ) (o p : Out)
-    → l ≡ lineAt s 0 → y ≡ yardOf l → from ≡ nextOf s l
-    → last ≡ worldAfter (world y air) (rest s from) .yard
-    → o ≡ wrote (out output 0) (refusedLines (world y air) 1 (rest s from))
-    → exit ≡ worldAfter (world y air) (rest s from) .air
-    → p ≡ wrote o (postsText last 8)
+pub good-ran : (s air exit output first : List ℕ) (l : Line) (st : Sets) (from fr be : ℕ) (R : Rows) (o p : Out)
+    → judged s .number ≡ 0 → l ≡ lineAt s 0 → st ≡ setsOf l → from ≡ nextOf s l
+    → world (rowsYard st R fr be first) exit ≡ worldAfter (world (rowsYard st zeroRows 0 0 (replicate 128 0)) air) (rest s from)
+    → o ≡ wrote (out output 0) (refusedLines (world (rowsYard st zeroRows 0 0 (replicate 128 0)) air) 1 (rest s from))
+    → p ≡ wrote o (postsText (rowsYard st R fr be first) 8)
     → (p ≡ wrote (out output 0) (scriptText s air)) × (exit ≡ scriptWorld s air .air)
 unfolding scriptText scriptWorld
-good-ran s air exit output l y last from o p el ey ef et eo ex ep =
+good-ran s air exit output first l st from fr be R o p good el es ef et eo ep =
+    let e : yardOf (lineAt s 0) ≡ rowsYard st zeroRows 0 0 (replicate 128 0)
+    = fresh-first s st (lineAt s 0) refl (accepted-first s good) (es ∙ ap setsOf el) ∙ sym (rows-fresh st)
+    in
     let both = next (out output 0) _ _ eo ep in
-    rw (← el, ← ey, ← ef) (rw et at both, ex)
+    let ey : rowsYard st R fr be first ≡ worldAfter (world (rowsYard st zeroRows 0 0 (replicate 128 0)) air) (rest s from) .yard = ap (λ (w : World). w .yard) et in
+    rw (e, ← el, ← ef) (rw ey at both, ap (λ (w : World). w .air) et)
 
 -- the printout and the air of a script that is not refused, and of one that is
 printout-good : (s air : List ℕ) → judged s .number ≡ 0 → printout s air ≡ scriptText s air

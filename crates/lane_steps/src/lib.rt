@@ -1,16 +1,20 @@
 // The steps of one post in a yard, in place: its numbers are handed over, its arrays and the air are lent. The contracts cite
 // specs/InPlace.antt; where `known` says nothing false they are those of the post's steps by value (proofs/SameSteps.antt).
 use air;
+use frame::Frame;
 use post::Head;
 use steps::BeaconAnswer;
-use steps::Took;
 use yard::PostBeaconed;
 ghost use mathlib.Core.Path.{_≡_};
+ghost use mathlib.Core.Bool.{cond};
 ghost use mathlib.Core.List.{List};
 ghost use Prim.Native.Nat.{ℕ};
+ghost use lib.Dec.{eqb};
+ghost use Rattle.air.specs.Air.{airWith};
 ghost use Rattle.post.specs.Record.{postOf};
-ghost use Rattle.yard.specs.Singles.{postBeacons, postBeaconsAir};
-ghost use Rattle.lane_steps.specs.InPlace.{Left, finished, orderedIn, heardIn};
+ghost use Rattle.deliver.specs.Known.{knownAfter};
+ghost use Rattle.yard.specs.Singles.{framesAfter, postBeacons, postBeaconsAir};
+ghost use Rattle.lane_steps.specs.InPlace.{Left, deliveredFrom, orderedIn, heardIn};
 
 // What a step in place leaves: 0 or the refusal, the post's numbers, and how many frames are on the air.
 pub struct Placed {
@@ -44,7 +48,10 @@ pub fn order(
         };
     }
     let took = steps::order_in(h, word as u16, last, table, stamps, words);
-    finish(took, air, frames, last, table, stamps, log, known)
+    let sent = took.frame;
+    let after = yard::parts::broadcast(air, frames, sent);
+    let head = took.head;
+    finish(took.number, head, after, last, table, stamps, log, known)
 }
 
 // The post hears frame k (13, 21, 25, then 21, 24, 26 and 28 to 30), and delivers; what it passes on is the air's next frame.
@@ -74,13 +81,27 @@ pub fn hear(
     }
     let heard = got.frame;
     let took = steps::hear_in(h, heard, last, table, stamps, words);
-    finish(took, air, frames, last, table, stamps, log, known)
+    let passed_on = took.frame;
+    let after = pass_on(air, frames, passed_on);
+    let head = took.head;
+    finish(took.number, head, after, last, table, stamps, log, known)
 }
 
-// What was taken in is broadcast, and the post delivers; a refused step does neither.
+// Puts f on the air as its next frame, if it is one: most hearings pass nothing on (kind 0).
+fn pass_on(air: &mut [u8], frames: u16, f: Frame) -> u16
+    ensures { λ r. ⌜ r ≡ framesAfter (now (air .entry)) frames f ⌝ }
+    ensures bytes { λ _. ⌜ now (air .exit) ≡ airWith (now (air .entry)) frames f ⌝ }
+{
+    if f.kind == 0 {
+        return frames;
+    }
+    yard::parts::broadcast(air, frames, f)
+}
+
+// A post that took something in delivers; one whose step is refused does not.
 fn finish<'a>(
-    took: Took,
-    air: &mut [u8],
+    number: u8,
+    h: Head,
     frames: u16,
     last: &'a [u8; 8],
     table: &'a [u16; 136],
@@ -88,25 +109,22 @@ fn finish<'a>(
     log: &mut [u8; 128],
     known: &mut [u8; 8],
 ) -> Placed
-    ensures { λ r. ⌜ ((words : List ℕ) → _≡_ {A = Left} (record { number = r .number; post = postOf (r .head) (now (last .entry)) (now (table .entry)) (now (stamps .entry)) words (now (log .exit)); known = now (known .exit); frames = r .frames; air = now (air .exit) }) (finished (now (known .entry)) (now (air .entry)) (took .number) (took .frame) (postOf (took .head) (now (last .entry)) (now (table .entry)) (now (stamps .entry)) words (now (log .entry))) frames)) ⌝ }
+    ensures { λ r. ⌜ ((words : List ℕ) → (r .number ≡ number) × (r .frames ≡ frames) × (postOf (r .head) (now (last .entry)) (now (table .entry)) (now (stamps .entry)) words (now (log .exit)) ≡ cond (eqb number 0) (deliveredFrom (now (known .entry)) (postOf h (now (last .entry)) (now (table .entry)) (now (stamps .entry)) words (now (log .entry)))) (postOf h (now (last .entry)) (now (table .entry)) (now (stamps .entry)) words (now (log .entry)))) × (now (known .exit) ≡ cond (eqb number 0) (knownAfter (now (known .entry)) (postOf h (now (last .entry)) (now (table .entry)) (now (stamps .entry)) words (now (log .entry)))) (now (known .entry)))) ⌝ }
 {
-    let frame = took.frame;
-    let after = yard::parts::broadcast(air, frames, frame);
-    let mut head = took.head;
-    if took.number == 0 {
-        let joined = deliver::deliver_in(head, last, table, stamps, log, known);
-        head.logged = joined.logged;
-        Placed {
-            number: 0,
-            head: head,
-            frames: after,
-        }
-    } else {
-        Placed {
-            number: took.number,
-            head: head,
-            frames: after,
-        }
+    if number != 0 {
+        return Placed {
+            number: number,
+            head: h,
+            frames: frames,
+        };
+    }
+    let joined = deliver::deliver_in(h, last, table, stamps, log, known);
+    let mut head = h;
+    head.logged = joined.logged;
+    Placed {
+        number: 0,
+        head: head,
+        frames: frames,
     }
 }
 

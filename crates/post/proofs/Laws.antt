@@ -8,7 +8,7 @@ use Rattle.frame.specs.Layout.{noEntry}
 use Rattle.frame.specs.declared.Entry.{Entry}
 use Rattle.frame.specs.declared.Stamp.{Stamp}
 use Rattle.cells.specs.Tables.{stampUnder, withStamp}
-use Rattle.post.specs.Newest.{raised, raisedBelow, newer, newestBelow}
+use Rattle.post.specs.Newest.{raised, raisedBelow}
 
 -- one entry raises the table
 pub raise-is : (table : List ℕ) (lane : ℕ) (e : Entry) (old new : Stamp) (exit : List ℕ)
@@ -24,9 +24,3 @@ pub raised-more : (table : List ℕ) (entries : List Entry) (n : ℕ) (t r : Lis
     → r ≡ raisedBelow table entries (n + 1)
 unfolding raisedBelow
 raised-more table entries n t r p q = rw (add-one, ← p) q
-
--- one serial more is looked at
-pub newest-more : (table : List ℕ) (lane n : ℕ) (e r : Entry) → e ≡ newestBelow table lane n → r ≡ newer table lane n e
-    → r ≡ newestBelow table lane (n + 1)
-unfolding newestBelow
-newest-more table lane n e r p q = rw (add-one, ← p) q

@@ -1,3 +1,4 @@
 pub mod Record
 pub mod Newest
 pub mod Taking
+pub mod Loops

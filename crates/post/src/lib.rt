@@ -5,10 +5,13 @@ use frame::Serial;
 use frame::Stamp;
 ghost use mathlib.Core.Path.{_≡_};
 ghost use mathlib.Core.Bool.{cond};
-ghost use Prim.Native.Nat.{_<_};
+ghost use Prim.Native.Nat.{_+_, _-_, _<_, _≤_, max};
+ghost use lib.Dec.{eqb};
+ghost use Rattle.frame.specs.Layout.{noEntry};
 ghost use Rattle.frame.specs.declared.Entry.{Entry};
 ghost use Rattle.post.specs.Record.{freshPost};
-ghost use Rattle.post.specs.Newest.{raised, raisedBelow, newer, newest, newestEntries};
+ghost use Rattle.post.specs.Newest.{raised, raisedBelow, newest, newestEntries};
+ghost use Rattle.post.specs.Loops.{greatestBelow, lastBelow};
 
 // A post: its lane, the yard's posts and roles as sets of eight bits, its logical clock and own serial; for each lane
 // the last serial taken; the newest-stamp table, 8 lanes by 17 serials; the orders taken, stamp and word at place
@@ -89,47 +92,83 @@ fn raise(table: &mut [u16; 136], lane: u8, e: Entry)
 pub fn newest_entries(table: &[u16; 136]) -> [Entry; 8]
     ensures { λ r. ⌜ r ≡ newestEntries (now (table .entry)) ⌝ }
 {
-    [
-        newest_of(table, 0),
-        newest_of(table, 1),
-        newest_of(table, 2),
-        newest_of(table, 3),
-        newest_of(table, 4),
-        newest_of(table, 5),
-        newest_of(table, 6),
-        newest_of(table, 7),
-    ]
+    let mut entries = [none(); 8];
+    for lane in 0..Post::LANES {
+        entries[lane as usize] = newest_of(table, lane);
+    }
+    entries
 }
 
-fn newest_of(table: &[u16; 136], lane: u8) -> Entry
-    ensures { λ r. ⌜ r ≡ newest (now (table .entry)) lane ⌝ }
+fn none() -> Entry
+    ensures { λ r. ⌜ r ≡ noEntry ⌝ }
 {
-    let mut best = Entry {
+    Entry {
         serial: Serial(0),
         stamp: Stamp(0),
-    };
-    for serial in 0..Post::SERIALS {
-        best = newer_of(table, lane, Serial(serial), best);
     }
-    best
 }
 
-fn newer_of(table: &[u16; 136], lane: u8, serial: Serial, best: Entry) -> Entry
-    ensures { λ r. ⌜ r ≡ newer (now (table .entry)) lane (serial .0) best ⌝ }
+// The greatest stamp of the lane, and the last serial that it stands under.
+fn newest_of(table: &[u16; 136], lane: u8) -> Entry
+    requires { ⌜ lane < 8 ⌝ }
+    ensures { λ r. ⌜ r ≡ newest (now (table .entry)) lane ⌝ }
 {
-    let stamp = cells::stamp_under(table, lane, serial);
-    pick(
-        (0 < stamp.0) & (best.stamp.0 <= stamp.0),
+    let first = (lane as usize) * 17;
+    let stamp = greatest(table, first);
+    if stamp == 0 {
+        none()
+    } else {
         Entry {
-            serial: serial,
-            stamp: stamp,
-        },
-        best,
-    )
+            serial: Serial(last_under(table, first, stamp) as u8),
+            stamp: Stamp(stamp),
+        }
+    }
 }
 
-fn pick(test: bool, yes: Entry, no: Entry) -> Entry
-    ensures { λ r. ⌜ r ≡ cond test yes no ⌝ }
+// The greatest of the 17 stamps from this place on.
+fn greatest(table: &[u16], first: usize) -> u16
+    requires { do ⌜ first + 17 ≤ (← ⟦table.len()⟧) ⌝ }
+    ensures { λ r. ⌜ r ≡ greatestBelow (now (table .entry)) first 17 ⌝ }
 {
-    if test { yes } else { no }
+    let mut stamp = table[first];
+    for serial in 1..17usize {
+        stamp = larger(stamp, table[first + serial]);
+    }
+    stamp
+}
+
+// The last serial whose stamp is the greatest; 0 if no higher one has it.
+fn last_under(table: &[u16], first: usize, stamp: u16) -> u16
+    requires { do ⌜ (first + 17 ≤ (← ⟦table.len()⟧)) × (0 < stamp) × (greatestBelow (now table) first 17 ≡ stamp) ⌝ }
+    ensures { λ r. ⌜ r ≡ lastBelow (now (table .entry)) first stamp 17 ⌝ }
+{
+    let mut last = 0u16;
+    for serial in 1..17u16 {
+        last = larger(
+            last,
+            serial_if(table[first + (serial as usize)], stamp, serial),
+        );
+    }
+    last
+}
+
+// The serial if the stamp is the greatest, or else 0: one expression without a branch, which the compiler does for eight at once.
+fn serial_if(stamp: u16, greatest: u16, serial: u16) -> u16
+    requires { ⌜ (stamp ≤ greatest) × (0 < greatest) × (serial ≤ 16) ⌝ }
+    ensures { λ r. ⌜ r ≡ cond (eqb stamp greatest) «serial» 0 ⌝ }
+{
+    less(less(stamp, greatest - 1) * 32, 32 - serial)
+}
+
+fn larger(a: u16, b: u16) -> u16
+    ensures { λ r. ⌜ r ≡ max a b ⌝ }
+{
+    if a < b { b } else { a }
+}
+
+// The difference, and 0 where there is none.
+fn less(a: u16, b: u16) -> u16
+    ensures { λ r. ⌜ r ≡ a - b ⌝ }
+{
+    if a < b { 0 } else { a - b }
 }

@@ -1,27 +1,19 @@
-use Rattle.post.specs.Newest.{newestBelow}
-use Rattle.post.proofs.Laws.{newest-more}
-use Prim.Native.Nat.{_≤_, _-_}
-use mathlib.Core.Path.{_≡_}
+use Rattle.post.proofs.NewestLaws.{last-bound, newest-none, newest-found}
+use Prim.Native.Nat.{_*_}
+use mathlib.Core.Path.{refl}
 use native.Mathlib.Omega.{arith}
 use borrow.Author.Needs.{needs}
 use Rattle.post.proofs.newest_of.Statement.{statement}
 use Rattle.post.proofs.newest_of.Tie as tie
 
-abbrev Inv-loop : tie.InvT-loop
-Inv-loop table lane best₀ serial₀ best serial = (serial ≤ 17) × (best ≡ newestBelow table lane serial)
+cast-t13 : tie.Need-cast-t13
+cast-t13 c = omega (arith, last-bound (c .before .before .before .before .before .args .table .now) ((c .before .before .before .before .before .args .lane) * 17) (c .before .before .before .greatest .result) 17)
 
-abbrev μ-loop : tie.MeasureT-loop
-μ-loop table lane best₀ serial₀ best serial = 17 - serial
+returns : tie.Need-returns
+returns c = newest-none _ _ _ _ _ refl (c .before .before .greatest .ensures) (omega arith) (c .none .ensures)
 
-loop-holds : tie.Need-loop-holds Inv-loop μ-loop
-unfolding newestBelow
-loop-holds c = search needs
-
-loop-again : tie.Need-loop-again Inv-loop μ-loop
-loop-again c = (omega arith, newest-more _ _ _ _ _ (c .before .before .loop .inv .1) (c .newer-of .ensures))
-
-returns : tie.Need-returns Inv-loop μ-loop
-returns c = let e : c .before .loop .serial ≡ 17 = omega arith in rw e at (c .before .loop .inv .1)
+returns-2 : tie.Need-returns-2
+returns-2 c = newest-found _ _ _ _ _ refl (c .before .before .before .greatest .ensures) (omega arith) (c .last-under .ensures)
 
 pub newest-of-spec : {M : Type 1} → statement M
-newest-of-spec = tie.close (tie.spec Inv-loop μ-loop loop-holds (λ c κs. search needs) (λ c. search needs) (λ c. search needs) loop-again returns)
+newest-of-spec = tie.close (tie.spec (λ c. search needs) (λ c κs. search needs) (λ c κs. search needs) (λ c κs. search needs) cast-t13 returns returns-2)

@@ -100,7 +100,7 @@ fn pass_on(air: &mut [u8], frames: u16, f: Frame) -> u16
 
 // A post that took something in delivers; one whose step is refused does not.
 fn finish<'a>(
-    number: u8,
+    refused: u8,
     h: Head,
     frames: u16,
     last: &'a [u8; 8],
@@ -109,11 +109,11 @@ fn finish<'a>(
     log: &mut [u8; 128],
     known: &mut [u8; 8],
 ) -> Placed
-    ensures { λ r. ⌜ ((words : List ℕ) → (r .number ≡ number) × (r .frames ≡ frames) × (postOf (r .head) (now (last .entry)) (now (table .entry)) (now (stamps .entry)) words (now (log .exit)) ≡ cond (eqb number 0) (deliveredFrom (now (known .entry)) (postOf h (now (last .entry)) (now (table .entry)) (now (stamps .entry)) words (now (log .entry)))) (postOf h (now (last .entry)) (now (table .entry)) (now (stamps .entry)) words (now (log .entry)))) × (now (known .exit) ≡ cond (eqb number 0) (knownAfter (now (known .entry)) (postOf h (now (last .entry)) (now (table .entry)) (now (stamps .entry)) words (now (log .entry)))) (now (known .entry)))) ⌝ }
+    ensures { λ r. ⌜ ((words : List ℕ) → (r .number ≡ refused) × (r .frames ≡ frames) × (postOf (r .head) (now (last .entry)) (now (table .entry)) (now (stamps .entry)) words (now (log .exit)) ≡ cond (eqb refused 0) (deliveredFrom (now (known .entry)) (postOf h (now (last .entry)) (now (table .entry)) (now (stamps .entry)) words (now (log .entry)))) (postOf h (now (last .entry)) (now (table .entry)) (now (stamps .entry)) words (now (log .entry)))) × (now (known .exit) ≡ cond (eqb refused 0) (knownAfter (now (known .entry)) (postOf h (now (last .entry)) (now (table .entry)) (now (stamps .entry)) words (now (log .entry)))) (now (known .entry)))) ⌝ }
 {
-    if number != 0 {
+    if refused != 0 {
         return Placed {
-            number: number,
+            number: refused,
             head: h,
             frames: frames,
         };

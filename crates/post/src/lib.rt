@@ -1,6 +1,7 @@
 // One post by value: its record, and the parts of a step that work on one of its arrays.
 // The contracts cite specs/Record.antt, specs/Newest.antt and specs/Taking.antt.
 use frame::Entry;
+use frame::Frame;
 use frame::Serial;
 use frame::Stamp;
 ghost use mathlib.Core.Path.{_≡_};
@@ -93,8 +94,8 @@ pub fn newest_entries(table: &[u16; 136]) -> [Entry; 8]
     ensures { λ r. ⌜ r ≡ newestEntries (now (table .entry)) ⌝ }
 {
     let mut entries = [none(); 8];
-    for lane in 0..Post::LANES {
-        entries[lane as usize] = newest_of(table, lane);
+    for lane in 0..Frame::LANES {
+        entries[lane] = newest_of(table, lane as u8);
     }
     entries
 }
@@ -131,33 +132,32 @@ fn greatest(table: &[u16], first: usize) -> u16
     ensures { λ r. ⌜ r ≡ greatestBelow (now (table .entry)) first 17 ⌝ }
 {
     let mut stamp = table[first];
-    for serial in 1..17usize {
-        stamp = larger(stamp, table[first + serial]);
+    for serial in 1..Post::SERIALS {
+        stamp = larger(stamp, table[first + (serial as usize)]);
     }
     stamp
 }
 
-// The last serial whose stamp is the greatest; 0 if no higher one has it.
+// The last serial that the greatest stamp stands under.
 fn last_under(table: &[u16], first: usize, stamp: u16) -> u16
     requires { do ⌜ (first + 17 ≤ (← ⟦table.len()⟧)) × (0 < stamp) × (greatestBelow (now table) first 17 ≡ stamp) ⌝ }
     ensures { λ r. ⌜ r ≡ lastBelow (now (table .entry)) first stamp 17 ⌝ }
 {
     let mut last = 0u16;
-    for serial in 1..17u16 {
-        last = larger(
-            last,
-            serial_if(table[first + (serial as usize)], stamp, serial),
-        );
+    for serial in 1..Post::SERIALS {
+        let found = serial_if(table[first + (serial as usize)], stamp, serial);
+        last = larger(last, found);
     }
     last
 }
 
-// The serial if the stamp is the greatest, or else 0: one expression without a branch, which the compiler does for eight at once.
-fn serial_if(stamp: u16, greatest: u16, serial: u16) -> u16
+// The serial if the stamp is the greatest, or else 0. By differences and not by a test: so written, the compiler does
+// eight serials at once.
+fn serial_if(stamp: u16, greatest: u16, serial: u8) -> u16
     requires { ⌜ (stamp ≤ greatest) × (0 < greatest) × (serial ≤ 16) ⌝ }
     ensures { λ r. ⌜ r ≡ cond (eqb stamp greatest) «serial» 0 ⌝ }
 {
-    less(less(stamp, greatest - 1) * 32, 32 - serial)
+    less(less(stamp, greatest - 1) * 32, 32 - (serial as u16))
 }
 
 fn larger(a: u16, b: u16) -> u16

@@ -23,4 +23,4 @@ returns : tie.Need-returns Inv-loop μ-loop
 returns c = let e : c .before .loop .serial ≡ 17 = omega arith in rw e at (c .before .loop .inv .1)
 
 pub greatest-spec : {M : Type 1} → statement M
-greatest-spec = tie.close (tie.spec Inv-loop μ-loop (λ c. search needs) (λ c. search needs) loop-holds (λ c. search needs) (λ c. search needs) (λ c. search needs) (λ c κs. tt) (λ c. search needs) (λ c. search needs) loop-again returns)
+greatest-spec = tie.close (tie.spec Inv-loop μ-loop (λ c. search needs) (λ c. search needs) loop-holds (λ c. search needs) (λ c. search needs) (λ c. search needs) (λ c. search needs) (λ c κs. tt) (λ c. search needs) (λ c. search needs) loop-again returns)

@@ -23,4 +23,4 @@ returns : tie.Need-returns Inv-loop μ-loop
 returns c = let e : c .before .loop .lane ≡ 8 = omega arith in (rw e at (c .before .loop .inv .1)) ∙ entries-all _
 
 pub newest-entries-spec : {M : Type 1} → statement M
-newest-entries-spec = tie.close (tie.spec Inv-loop μ-loop (λ c κs. search needs) loop-holds (λ c κs. search needs) (λ c. search needs) (λ c. search needs) (λ c. search needs) (λ c. search needs) (λ c. search needs) loop-again returns)
+newest-entries-spec = tie.close (tie.spec Inv-loop μ-loop (λ c κs. search needs) loop-holds (λ c. search needs) (λ c κs. search needs) (λ c. search needs) (λ c. search needs) (λ c. search needs) (λ c. search needs) loop-again returns)

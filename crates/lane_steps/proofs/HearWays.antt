@@ -20,7 +20,7 @@ use Rattle.yard.specs.Parts.{absentRefusal}
 use Rattle.yard.proofs.HearWays.{hear-judged, post-hear-refused, post-hear-runs}
 use Rattle.lane_steps.specs.InPlace.{Left, finished, hearStopped, heardIn}
 
--- no air, no such frame, or bytes that are no frame
+-- bytes that are no frame
 pub hear-stopped : (known air : List ℕ) (p : Post) (frames k m n : ℕ) (got : FrameRead) → got ≡ readOf (stretchOf air frames k)
     → m ≡ absentRefusal air (p .lane) (p .posts) frames k → n ≡ cond (eqb m 0) (got .refusal) m → (n ≡ 0 → ⊥)
     → _≡_ {A = Left} (record { number = n; post = p; known = known; frames = frames; air = air }) (heardIn known air p frames k)
@@ -29,9 +29,20 @@ hear-stopped known air p frames k m n got eg em en h =
     let s = post-hear-refused air p frames k m n got eg em en h in
     rw (← s .0, ← s .1, ne-eqb n 0 h)
 
-module _ (known air : List ℕ) (p q : Post) (frames k m n t : ℕ) (got : FrameRead) (f : Frame)
+pub hear-no-frame : (known air : List ℕ) (p : Post) (frames k m : ℕ) (got : FrameRead) → got ≡ readOf (stretchOf air frames k)
+    → m ≡ absentRefusal air (p .lane) (p .posts) frames k → m ≡ 0 → (got .refusal ≡ 0 → ⊥)
+    → _≡_ {A = Left} (record { number = got .refusal; post = p; known = known; frames = frames; air = air }) (heardIn known air p frames k)
+hear-no-frame known air p frames k m got eg em z h = hear-stopped known air p frames k m (got .refusal) got eg em (rw z) h
+
+-- no air, or no such frame
+pub hear-absent : (known air : List ℕ) (p : Post) (frames k m : ℕ) → m ≡ absentRefusal air (p .lane) (p .posts) frames k → (m ≡ 0 → ⊥)
+    → _≡_ {A = Left} (record { number = m; post = p; known = known; frames = frames; air = air }) (heardIn known air p frames k)
+hear-absent known air p frames k m em h =
+    hear-stopped known air p frames k m m (readOf (stretchOf air frames k)) refl em (rw (ne-eqb m 0 h)) h
+
+module _ (known air : List ℕ) (p q : Post) (frames k m t : ℕ) (got : FrameRead) (f : Frame)
     (eg : got ≡ readOf (stretchOf air frames k)) (em : m ≡ absentRefusal air (p .lane) (p .posts) frames k)
-    (en : n ≡ cond (eqb m 0) (got .refusal) m) (z : n ≡ 0) (et : t ≡ hearRefusal p (got .frame)) (eq : q ≡ hearTook p (got .frame))
+    (zm : m ≡ 0) (z : got .refusal ≡ 0) (et : t ≡ hearRefusal p (got .frame)) (eq : q ≡ hearTook p (got .frame))
     (ef : f ≡ hearStep p (got .frame) .frame)
   where
     ran : (_≡_ {A = PostHeard} (record {
@@ -39,7 +50,7 @@ module _ (known air : List ℕ) (p q : Post) (frames k m n t : ℕ) (got : Frame
       post = hearStep p (got .frame) .post;
       frames = framesAfter air frames f;
     }) (postHears air p frames k)) × (airWith air frames f ≡ postHearsAir air p frames k)
-    ran = post-hear-runs air (airWith air frames f) p frames k m n (framesAfter air frames f) got (hearStep p (got .frame)) eg em en z refl (rw (← ef)) (rw (← ef))
+    ran = post-hear-runs air (airWith air frames f) p frames k m (got .refusal) (framesAfter air frames f) got (hearStep p (got .frame)) eg em (rw zm) z refl (rw (← ef)) (rw (← ef))
 
     -- what the post's own step judged is what the hearing is refused by
     judged-so : hearStopped air p frames k ≡ t
@@ -52,7 +63,7 @@ module _ (known air : List ℕ) (p q : Post) (frames k m n t : ℕ) (got : Frame
     air-so = ran .1
 
     took-so : q ≡ hearTook p (frameAt air k)
-    took-so = eq ∙ ap (hearTook p) (hear-judged air p frames k m n got eg em en .1 z)
+    took-so = eq ∙ ap (hearTook p) (hear-judged air p frames k m (got .refusal) got eg em (rw zm) .1 z)
 
     -- otherwise the hearing is the post's own step, finished
     pub hear-ran : finished known air t f q frames ≡ heardIn known air p frames k

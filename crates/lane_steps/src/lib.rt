@@ -69,12 +69,18 @@ pub fn hear(
 ) -> Placed
     ensures { λ r. ⌜ _≡_ {A = Left} (record { number = r .number; post = postOf (r .head) (now (last .exit)) (now (table .exit)) (now (stamps .exit)) (now (words .exit)) (now (log .exit)); known = now (known .exit); frames = r .frames; air = now (air .exit) }) (heardIn (now (known .entry)) (now (air .entry)) (postOf h (now (last .entry)) (now (table .entry)) (now (stamps .entry)) (now (words .entry)) (now (log .entry))) frames k) ⌝ }
 {
-    let got = yard::parts::read_frame(air, frames, k);
     let number = yard::parts::absent(air, h.lane, h.posts, frames, k);
-    let number = cells::pick(number == 0, got.refusal, number);
     if number != 0 {
         return Placed {
             number: number,
+            head: h,
+            frames: frames,
+        };
+    }
+    let got = yard::parts::read_frame(air, frames, k);
+    if got.refusal != 0 {
+        return Placed {
+            number: got.refusal,
             head: h,
             frames: frames,
         };

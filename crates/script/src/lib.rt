@@ -2,6 +2,8 @@
 // specs/Run.antt; meaning/specs/Script.antt says what a script prints.
 mod line_steps;
 mod posts;
+mod roll_hearings;
+mod roll_posts;
 mod roll_rows;
 mod row_steps;
 

@@ -2,31 +2,21 @@
 // specs/Rows.antt, and RollCall.antt and Loops.antt of the crate `roll`.
 use crate::Sets;
 use crate::Stepped;
+use crate::roll_posts;
 use frame::Serial;
 use frame::Stamp;
 use post::Head;
 use post::Post;
 ghost use mathlib.Core.Path.{_≡_};
-ghost use mathlib.Core.Bool.{cond, not, _&&_};
-ghost use mathlib.Core.List.{List, [], _∷_, map};
+ghost use mathlib.Core.Bool.{cond};
+ghost use mathlib.Core.List.{List, [], _∷_};
 ghost use Prim.Native.Nat.{ℕ, _-_, _<_};
-ghost use lib.Dec.{eqb};
-ghost use lib.ListN.{getD};
 ghost use Rattle.cells.specs.Sets.{hasLane};
-ghost use Rattle.cells.specs.Tables.{orderPlace};
-ghost use Rattle.post.specs.Record.{postOf};
-ghost use Rattle.deliver.specs.Known.{Known};
-ghost use Rattle.yard.specs.Worlds.{hear, beacon, singles};
+ghost use Rattle.yard.specs.Worlds.{beacon, singles};
 ghost use Rattle.roll.specs.Answers.{rollNumber};
 ghost use Rattle.roll.specs.RollCall.{postsHear, beaconsSent, postsHearBeacons, rollCall, rollCallAir};
-ghost use Rattle.roll.specs.Loops.{world, laneFrames, lanesFrames, beaconFrames};
-ghost use Rattle.script.specs.Rows.{rows, rowsYard, Good, HeardAll};
-
-// What some hearings of one post leave: its numbers, and how many frames are on the air.
-struct PostRan {
-    head: Head,
-    frames: u16,
-}
+ghost use Rattle.roll.specs.Loops.{world};
+ghost use Rattle.script.specs.Rows.{rows, rowsYard, Good};
 
 // How many frames are on the air and how many beacons were sent.
 struct Sent {
@@ -140,7 +130,7 @@ fn hear_orders(
 {
     let mut on_air = frames;
     for p in 0..Post::LANES {
-        on_air = post_hears_orders(
+        on_air = roll_posts::post_hears_orders(
             s,
             clocks,
             serials,
@@ -158,188 +148,6 @@ fn hear_orders(
         );
     }
     on_air
-}
-
-// The post of lane p, if there is one, hears the first frames of the other lanes.
-fn post_hears_orders(
-    s: Sets,
-    clocks: &mut [u16; 8],
-    serials: &[u8; 8],
-    loggeds: &mut [u8; 8],
-    lasts: &mut [[u8; 8]; 8],
-    tables: &mut [[u16; 136]; 8],
-    stamps: &mut [[u16; 128]; 8],
-    words: &mut [[u16; 128]; 8],
-    logs: &mut [[u8; 128]; 8],
-    knowns: &mut [[u8; 8]; 8],
-    first: &[u16; 128],
-    air: &mut [u8],
-    frames: u16,
-    p: u8,
-) -> u16
-    requires { ⌜ (p < 8) × Good s (rows (now clocks) (now serials) (now loggeds) (now lasts) (now tables) (now stamps) (now words) (now logs) (now knowns)) ⌝ }
-    ensures { λ r. ⌜ ((beacons : ℕ) (before : List ℕ) → world (rowsYard s (rows (now (clocks .exit)) (now (serials .entry)) (now (loggeds .exit)) (now (lasts .exit)) (now (tables .exit)) (now (stamps .exit)) (now (words .exit)) (now (logs .exit)) (now (knowns .exit))) r beacons before) (now (air .exit)) ≡ singles (world (rowsYard s (rows (now (clocks .entry)) (now (serials .entry)) (now (loggeds .entry)) (now (lasts .entry)) (now (tables .entry)) (now (stamps .entry)) (now (words .entry)) (now (logs .entry)) (now (knowns .entry))) frames beacons before) (now (air .entry))) (cond (hasLane (s .present) p) (map (hear p) (lanesFrames (now (first .entry)) (now (serials .entry)) p 8)) [])) ⌝ }
-    ensures good { λ _. ⌜ Good s (rows (now (clocks .exit)) (now (serials .entry)) (now (loggeds .exit)) (now (lasts .exit)) (now (tables .exit)) (now (stamps .exit)) (now (words .exit)) (now (logs .exit)) (now (knowns .exit))) ⌝ }
-{
-    if !cells::has(s.present, p) {
-        return frames;
-    }
-    let i = p as usize;
-    let h = Head {
-        lane: p,
-        posts: s.present,
-        sources: s.sources,
-        dests: s.dests,
-        clock: Stamp(clocks[i]),
-        serial: Serial(serials[i]),
-        logged: loggeds[i],
-    };
-    let ran = hear_lanes(
-        h,
-        air,
-        frames,
-        first,
-        serials,
-        p,
-        &mut lasts[i],
-        &mut tables[i],
-        &mut stamps[i],
-        &mut words[i],
-        &mut logs[i],
-        &mut knowns[i],
-    );
-    let head = ran.head;
-    clocks[i] = head.clock.0;
-    loggeds[i] = head.logged;
-    ran.frames
-}
-
-// One post, that of lane p, hears the first frames of the other lanes.
-fn hear_lanes(
-    h: Head,
-    air: &mut [u8],
-    frames: u16,
-    first: &[u16; 128],
-    sent: &[u8; 8],
-    p: u8,
-    last: &mut [u8; 8],
-    table: &mut [u16; 136],
-    stamps: &mut [u16; 128],
-    words: &mut [u16; 128],
-    log: &mut [u8; 128],
-    known: &mut [u8; 8],
-) -> PostRan
-    requires { ⌜ Known (now known) (postOf h (now last) (now table) (now stamps) (now words) (now log)) ⌝ }
-    ensures { λ r. ⌜ HeardAll (postOf h (now (last .entry)) (now (table .entry)) (now (stamps .entry)) (now (words .entry)) (now (log .entry))) (postOf (r .head) (now (last .exit)) (now (table .exit)) (now (stamps .exit)) (now (words .exit)) (now (log .exit))) (now (known .exit)) frames (r .frames) (now (air .entry)) (now (air .exit)) (lanesFrames (now (first .entry)) (now (sent .entry)) p 8) ⌝ }
-{
-    let mut next = h;
-    let mut on_air = frames;
-    for q in 0..Post::LANES {
-        let ran = hear_lane(
-            next,
-            air,
-            on_air,
-            first,
-            sent,
-            p,
-            q,
-            last,
-            table,
-            stamps,
-            words,
-            log,
-            known,
-        );
-        next = ran.head;
-        on_air = ran.frames;
-    }
-    PostRan {
-        head: next,
-        frames: on_air,
-    }
-}
-
-// One post, that of lane p, hears the first frames of lane q, if that is another lane.
-fn hear_lane(
-    h: Head,
-    air: &mut [u8],
-    frames: u16,
-    first: &[u16; 128],
-    sent: &[u8; 8],
-    p: u8,
-    q: u8,
-    last: &mut [u8; 8],
-    table: &mut [u16; 136],
-    stamps: &mut [u16; 128],
-    words: &mut [u16; 128],
-    log: &mut [u8; 128],
-    known: &mut [u8; 8],
-) -> PostRan
-    requires { ⌜ Known (now known) (postOf h (now last) (now table) (now stamps) (now words) (now log)) ⌝ }
-    ensures { λ r. ⌜ HeardAll (postOf h (now (last .entry)) (now (table .entry)) (now (stamps .entry)) (now (words .entry)) (now (log .entry))) (postOf (r .head) (now (last .exit)) (now (table .exit)) (now (stamps .exit)) (now (words .exit)) (now (log .exit))) (now (known .exit)) frames (r .frames) (now (air .entry)) (now (air .exit)) (cond (eqb q p) [] (laneFrames (now (first .entry)) q (getD (now (sent .entry)) q 0))) ⌝ }
-{
-    if q == p {
-        return PostRan {
-            head: h,
-            frames: frames,
-        };
-    }
-    let n = cells::last_taken(sent, q);
-    hear_serials(
-        h,
-        air,
-        frames,
-        first,
-        q,
-        n.0,
-        last,
-        table,
-        stamps,
-        words,
-        log,
-        known,
-    )
-}
-
-// One post hears the first frames of serials 1 to n of lane q.
-fn hear_serials(
-    h: Head,
-    air: &mut [u8],
-    frames: u16,
-    first: &[u16; 128],
-    q: u8,
-    n: u8,
-    last: &mut [u8; 8],
-    table: &mut [u16; 136],
-    stamps: &mut [u16; 128],
-    words: &mut [u16; 128],
-    log: &mut [u8; 128],
-    known: &mut [u8; 8],
-) -> PostRan
-    requires { ⌜ Known (now known) (postOf h (now last) (now table) (now stamps) (now words) (now log)) ⌝ }
-    ensures { λ r. ⌜ HeardAll (postOf h (now (last .entry)) (now (table .entry)) (now (stamps .entry)) (now (words .entry)) (now (log .entry))) (postOf (r .head) (now (last .exit)) (now (table .exit)) (now (stamps .exit)) (now (words .exit)) (now (log .exit))) (now (known .exit)) frames (r .frames) (now (air .entry)) (now (air .exit)) (laneFrames (now (first .entry)) q n) ⌝ }
-{
-    let mut next = h;
-    let mut on_air = frames;
-    let mut serial = 0u8;
-    while serial < n {
-        serial = serial + 1;
-        let k = first_frame(first, q, serial);
-        let heard = lane_steps::hear(next, air, on_air, k, last, table, stamps, words, log, known);
-        next = heard.head;
-        on_air = heard.frames;
-    }
-    PostRan {
-        head: next,
-        frames: on_air,
-    }
-}
-
-// The number of the first frame of order (q, serial).
-fn first_frame(first: &[u16; 128], q: u8, serial: u8) -> usize
-    ensures { λ r. ⌜ r ≡ getD (now (first .entry)) (orderPlace q serial) 0 ⌝ }
-{
-    cells::word_at(first, cells::order_place(q, Serial(serial))) as usize
 }
 
 // Each source in rising order sends a beacon.
@@ -421,7 +229,7 @@ fn hear_beacons(
 {
     let mut on_air = frames;
     for p in 0..Post::LANES {
-        on_air = post_hears_beacons(
+        on_air = roll_posts::post_hears_beacons(
             s,
             clocks,
             serials,
@@ -439,140 +247,4 @@ fn hear_beacons(
         );
     }
     on_air
-}
-
-// The post of lane p, if there is one, hears the beacons of the other sources.
-fn post_hears_beacons(
-    s: Sets,
-    clocks: &mut [u16; 8],
-    serials: &[u8; 8],
-    loggeds: &mut [u8; 8],
-    lasts: &mut [[u8; 8]; 8],
-    tables: &mut [[u16; 136]; 8],
-    stamps: &mut [[u16; 128]; 8],
-    words: &mut [[u16; 128]; 8],
-    logs: &mut [[u8; 128]; 8],
-    knowns: &mut [[u8; 8]; 8],
-    air: &mut [u8],
-    frames: u16,
-    from: u16,
-    p: u8,
-) -> u16
-    requires { ⌜ (p < 8) × Good s (rows (now clocks) (now serials) (now loggeds) (now lasts) (now tables) (now stamps) (now words) (now logs) (now knowns)) ⌝ }
-    ensures { λ r. ⌜ ((beacons : ℕ) (first : List ℕ) → world (rowsYard s (rows (now (clocks .exit)) (now (serials .entry)) (now (loggeds .exit)) (now (lasts .exit)) (now (tables .exit)) (now (stamps .exit)) (now (words .exit)) (now (logs .exit)) (now (knowns .exit))) r beacons first) (now (air .exit)) ≡ singles (world (rowsYard s (rows (now (clocks .entry)) (now (serials .entry)) (now (loggeds .entry)) (now (lasts .entry)) (now (tables .entry)) (now (stamps .entry)) (now (words .entry)) (now (logs .entry)) (now (knowns .entry))) frames beacons first) (now (air .entry))) (cond (hasLane (s .present) p) (map (hear p) (beaconFrames (s .sources) from p 8)) [])) ⌝ }
-    ensures good { λ _. ⌜ Good s (rows (now (clocks .exit)) (now (serials .entry)) (now (loggeds .exit)) (now (lasts .exit)) (now (tables .exit)) (now (stamps .exit)) (now (words .exit)) (now (logs .exit)) (now (knowns .exit))) ⌝ }
-{
-    if !cells::has(s.present, p) {
-        return frames;
-    }
-    let i = p as usize;
-    let h = Head {
-        lane: p,
-        posts: s.present,
-        sources: s.sources,
-        dests: s.dests,
-        clock: Stamp(clocks[i]),
-        serial: Serial(serials[i]),
-        logged: loggeds[i],
-    };
-    let ran = hear_sources(
-        h,
-        air,
-        frames,
-        s.sources,
-        from,
-        p,
-        &mut lasts[i],
-        &mut tables[i],
-        &mut stamps[i],
-        &mut words[i],
-        &mut logs[i],
-        &mut knowns[i],
-    );
-    let head = ran.head;
-    clocks[i] = head.clock.0;
-    loggeds[i] = head.logged;
-    ran.frames
-}
-
-// One post, that of lane p, hears the beacons of the other sources.
-fn hear_sources(
-    h: Head,
-    air: &mut [u8],
-    frames: u16,
-    sources: u8,
-    from: u16,
-    p: u8,
-    last: &mut [u8; 8],
-    table: &mut [u16; 136],
-    stamps: &mut [u16; 128],
-    words: &mut [u16; 128],
-    log: &mut [u8; 128],
-    known: &mut [u8; 8],
-) -> PostRan
-    requires { ⌜ Known (now known) (postOf h (now last) (now table) (now stamps) (now words) (now log)) ⌝ }
-    ensures { λ r. ⌜ HeardAll (postOf h (now (last .entry)) (now (table .entry)) (now (stamps .entry)) (now (words .entry)) (now (log .entry))) (postOf (r .head) (now (last .exit)) (now (table .exit)) (now (stamps .exit)) (now (words .exit)) (now (log .exit))) (now (known .exit)) frames (r .frames) (now (air .entry)) (now (air .exit)) (beaconFrames sources from p 8) ⌝ }
-{
-    let mut next = h;
-    let mut on_air = frames;
-    let mut below = 0u8;
-    for i in 0..Post::LANES {
-        let k = (from as usize) + (below as usize);
-        let ran = hear_source(
-            next,
-            air,
-            on_air,
-            sources,
-            k,
-            p,
-            i,
-            last,
-            table,
-            stamps,
-            words,
-            log,
-            known,
-        );
-        next = ran.head;
-        on_air = ran.frames;
-        below = below + cells::pick(cells::has(sources, i), 1, 0);
-    }
-    PostRan {
-        head: next,
-        frames: on_air,
-    }
-}
-
-// One post, that of lane p, hears frame k, the beacon of lane i, if that is another source.
-fn hear_source(
-    h: Head,
-    air: &mut [u8],
-    frames: u16,
-    sources: u8,
-    k: usize,
-    p: u8,
-    i: u8,
-    last: &mut [u8; 8],
-    table: &mut [u16; 136],
-    stamps: &mut [u16; 128],
-    words: &mut [u16; 128],
-    log: &mut [u8; 128],
-    known: &mut [u8; 8],
-) -> PostRan
-    requires { ⌜ Known (now known) (postOf h (now last) (now table) (now stamps) (now words) (now log)) ⌝ }
-    ensures { λ r. ⌜ HeardAll (postOf h (now (last .entry)) (now (table .entry)) (now (stamps .entry)) (now (words .entry)) (now (log .entry))) (postOf (r .head) (now (last .exit)) (now (table .exit)) (now (stamps .exit)) (now (words .exit)) (now (log .exit))) (now (known .exit)) frames (r .frames) (now (air .entry)) (now (air .exit)) (cond (hasLane sources i && not (eqb i p)) (k ∷ []) []) ⌝ }
-{
-    if cells::has(sources, i) & (i != p) {
-        let heard = lane_steps::hear(h, air, frames, k, last, table, stamps, words, log, known);
-        let head = heard.head;
-        PostRan {
-            head: head,
-            frames: heard.frames,
-        }
-    } else {
-        PostRan {
-            head: h,
-            frames: frames,
-        }
-    }
 }

@@ -7,8 +7,8 @@ use Prim.Native.Nat.{_≤_, _-_}
 use mathlib.Core.Path.{_≡_, _∙_, refl}
 use native.Mathlib.Omega.{arith}
 use borrow.Author.Needs.{needs}
-use Rattle.script.proofs.roll_rows.hear_serials.Statement.{statement}
-use Rattle.script.proofs.roll_rows.hear_serials.Tie as tie
+use Rattle.script.proofs.roll_hearings.hear_serials.Statement.{statement}
+use Rattle.script.proofs.roll_hearings.hear_serials.Tie as tie
 
 abbrev Inv-loop : tie.InvT-loop
 Inv-loop air₀ frames first q n last₀ table₀ stamps₀ words₀ log₀ known₀ next₀ on-air₀ serial₀ air last table stamps words log known next on-air serial =

@@ -9,8 +9,8 @@ use Prim.Native.Nat.{_≤_, _-_}
 use mathlib.Core.Path.{_≡_, _∙_, refl}
 use native.Mathlib.Omega.{arith}
 use borrow.Author.Needs.{needs}
-use Rattle.script.proofs.roll_rows.hear_sources.Statement.{statement}
-use Rattle.script.proofs.roll_rows.hear_sources.Tie as tie
+use Rattle.script.proofs.roll_hearings.hear_sources.Statement.{statement}
+use Rattle.script.proofs.roll_hearings.hear_sources.Tie as tie
 
 abbrev Inv-loop : tie.InvT-loop
 Inv-loop air₀ frames sources from p last₀ table₀ stamps₀ words₀ log₀ known₀ next₀ on-air₀ below₀ i₀ air last table stamps words log known next on-air below i =

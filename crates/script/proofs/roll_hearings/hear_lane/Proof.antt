@@ -1,7 +1,7 @@
 use Rattle.script.proofs.HeardLaws.{lane-own, lane-other}
 use borrow.Author.Needs.{needs}
-use Rattle.script.proofs.roll_rows.hear_lane.Statement.{statement}
-use Rattle.script.proofs.roll_rows.hear_lane.Tie as tie
+use Rattle.script.proofs.roll_hearings.hear_lane.Statement.{statement}
+use Rattle.script.proofs.roll_hearings.hear_lane.Tie as tie
 
 returns : tie.Need-returns
 returns c = lane-own _ _ _ _ (c .before .before .args .first .now) (c .before .before .args .sent .now) (c .before .before .args .p) (c .before .before .args .q) (c .if1 .taken) (c .before .before .pre)

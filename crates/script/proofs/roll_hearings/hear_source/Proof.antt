@@ -1,7 +1,7 @@
 use Rattle.script.proofs.HeardLaws.{source-other, source-own}
 use borrow.Author.Needs.{needs}
-use Rattle.script.proofs.roll_rows.hear_source.Statement.{statement}
-use Rattle.script.proofs.roll_rows.hear_source.Tie as tie
+use Rattle.script.proofs.roll_hearings.hear_source.Statement.{statement}
+use Rattle.script.proofs.roll_hearings.hear_source.Tie as tie
 
 returns : tie.Need-returns
 returns c = source-other _ _ _ _ _ _ _ _ _ (c .before .before .before .before .before .before .before .before .before .before .before .before .before .before .args .sources) (c .before .before .before .before .before .before .before .before .before .before .before .before .before .before .args .p) (c .before .before .before .before .before .before .before .before .before .before .before .before .before .before .args .i) _ _ (c .before .before .before .before .before .before .before .before .before .before .before .before .before .before .pre) (c .before .before .before .before .before .before .before .before .before .before .before .before .has .ensures) (c .before .before .before .before .before .before .before .before .before .before .before .if1 .taken) (c .before .before .before .hear .ensures)

@@ -1,6 +1,6 @@
 use borrow.Author.Needs.{needs}
-use Rattle.script.proofs.roll_rows.first_frame.Statement.{statement}
-use Rattle.script.proofs.roll_rows.first_frame.Tie as tie
+use Rattle.script.proofs.roll_hearings.first_frame.Statement.{statement}
+use Rattle.script.proofs.roll_hearings.first_frame.Tie as tie
 
 returns : tie.Need-returns
 returns c = rw (← (c .before .order-place .ensures)) (c .word-at .ensures)

@@ -12,8 +12,11 @@ use Rattle.post.specs.declared.Post.{Post}
 use Rattle.post.specs.Record.{withLog}
 use Rattle.deliver.specs.declared.NewLog.{NewLog}
 use Rattle.deliver.specs.Known.{joinedFrom, knownAfter}
+use Rattle.steps.specs.Refusals.{hearRefusal}
+use Rattle.steps.specs.Steps.{hearStep}
+use Rattle.steps.specs.InPlace.{hearTook}
 use Rattle.yard.specs.Singles.{framesAfter}
-use Rattle.lane_steps.specs.InPlace.{Left, deliveredFrom, finished}
+use Rattle.lane_steps.specs.InPlace.{Left, deliveredFrom, finished, frameHeardIn}
 
 -- no frame (kind 0) is refused wherever it is to be written
 none-refused : (air : List ℕ) (k : ℕ) (f : Frame) → f .kind ≡ 0 → eqb (placeRefusal air k f) 0 ≡ false
@@ -45,3 +48,9 @@ pub all-finished : (known known′ air exit : List ℕ) (t n frames after fr : �
     → _≡_ {A = Left} (record { number = n; post = p; known = known′; frames = fr; air = exit }) (finished known air t f q frames)
 unfolding finished
 all-finished known known′ air exit t n frames after fr f q p ea ex d = rw (d .0, d .1, d .2, d .3, ea, ex)
+
+-- of a hearing: by what the post's own step judged, took and broadcasts
+pub heard-so : (known air : List ℕ) (p q : Post) (frames t : ℕ) (f g : Frame) → t ≡ hearRefusal p f → q ≡ hearTook p f → g ≡ hearStep p f .frame
+    → finished known air t g q frames ≡ frameHeardIn known air p frames f
+unfolding frameHeardIn
+heard-so known air p q frames t f g et eq eg = rw (et, eq, eg)

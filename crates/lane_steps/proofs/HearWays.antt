@@ -18,7 +18,7 @@ use Rattle.yard.specs.declared.PostHeard.{PostHeard}
 use Rattle.yard.specs.Singles.{framesAfter, frameAt, postHears, postHearsAir}
 use Rattle.yard.specs.Parts.{absentRefusal}
 use Rattle.yard.proofs.HearWays.{hear-judged, post-hear-refused, post-hear-runs}
-use Rattle.lane_steps.specs.InPlace.{Left, finished, hearStopped, heardIn}
+use Rattle.lane_steps.specs.InPlace.{Left, finished, hearStopped, heardIn, frameHeardIn}
 
 -- bytes that are no frame
 pub hear-stopped : (known air : List ℕ) (p : Post) (frames k m n : ℕ) (got : FrameRead) → got ≡ readOf (stretchOf air frames k)
@@ -40,38 +40,32 @@ pub hear-absent : (known air : List ℕ) (p : Post) (frames k m : ℕ) → m ≡
 hear-absent known air p frames k m em h =
     hear-stopped known air p frames k m m (readOf (stretchOf air frames k)) refl em (rw (ne-eqb m 0 h)) h
 
-module _ (known air : List ℕ) (p q : Post) (frames k m t : ℕ) (got : FrameRead) (f : Frame)
-    (eg : got ≡ readOf (stretchOf air frames k)) (em : m ≡ absentRefusal air (p .lane) (p .posts) frames k)
-    (zm : m ≡ 0) (z : got .refusal ≡ 0) (et : t ≡ hearRefusal p (got .frame)) (eq : q ≡ hearTook p (got .frame))
-    (ef : f ≡ hearStep p (got .frame) .frame)
+-- a frame that is read is heard as the post's own step hears it
+module _ (known air : List ℕ) (p : Post) (frames k m : ℕ) (got : FrameRead) (eg : got ≡ readOf (stretchOf air frames k))
+    (em : m ≡ absentRefusal air (p .lane) (p .posts) frames k) (zm : m ≡ 0) (z : got .refusal ≡ 0)
   where
     ran : (_≡_ {A = PostHeard} (record {
       answer = hearStep p (got .frame) .answer;
       post = hearStep p (got .frame) .post;
-      frames = framesAfter air frames f;
-    }) (postHears air p frames k)) × (airWith air frames f ≡ postHearsAir air p frames k)
-    ran = post-hear-runs air (airWith air frames f) p frames k m (got .refusal) (framesAfter air frames f) got (hearStep p (got .frame)) eg em (rw zm) z refl (rw (← ef)) (rw (← ef))
+      frames = framesAfter air frames (hearStep p (got .frame) .frame);
+    }) (postHears air p frames k)) × (airWith air frames (hearStep p (got .frame) .frame) ≡ postHearsAir air p frames k)
+    ran = post-hear-runs air (airWith air frames (hearStep p (got .frame) .frame)) p frames k m (got .refusal) (framesAfter air frames (hearStep p (got .frame) .frame)) got (hearStep p (got .frame)) eg em (rw zm) z refl refl refl
 
-    -- what the post's own step judged is what the hearing is refused by
-    judged-so : hearStopped air p frames k ≡ t
-    judged-so = rw (← ran .0) (hear-number p (got .frame) ∙ sym et)
+    -- what the post's own step judges is what the hearing is refused by
+    pub judged-so : hearStopped air p frames k ≡ hearRefusal p (got .frame)
+    judged-so = rw (← ran .0) (hear-number p (got .frame))
 
-    frames-so : framesAfter air frames f ≡ postHears air p frames k .frames
+    frames-so : framesAfter air frames (hearStep p (got .frame) .frame) ≡ postHears air p frames k .frames
     frames-so = ap (λ (x : PostHeard). x .frames) (ran .0)
 
-    air-so : airWith air frames f ≡ postHearsAir air p frames k
-    air-so = ran .1
+    -- the frame is frame k
+    pub frame-so : got .frame ≡ frameAt air k
+    frame-so = hear-judged air p frames k m (got .refusal) got eg em (rw zm) .1 z
 
-    took-so : q ≡ hearTook p (frameAt air k)
-    took-so = eq ∙ ap (hearTook p) (hear-judged air p frames k m (got .refusal) got eg em (rw zm) .1 z)
-
-    -- otherwise the hearing is the post's own step, finished
-    pub hear-ran : finished known air t f q frames ≡ heardIn known air p frames k
-    unfolding finished heardIn hearTook
-    hear-ran = go (eqb t 0) refl
+    pub hear-ran : frameHeardIn known air p frames (got .frame) ≡ heardIn known air p frames k
+    unfolding frameHeardIn finished heardIn hearTook
+    hear-ran = go (eqb (hearRefusal p (got .frame)) 0) refl
       where
-        go : (b : Bool) → eqb t 0 ≡ b → finished known air t f q frames ≡ heardIn known air p frames k
-        go true e = rw (judged-so, ← frames-so, ← air-so, e, ← took-so)
-        go false e =
-            let s : q ≡ p = rw (← et, e) at eq in
-            rw (judged-so, ← frames-so, ← air-so, e, s)
+        go : (b : Bool) → eqb (hearRefusal p (got .frame)) 0 ≡ b → frameHeardIn known air p frames (got .frame) ≡ heardIn known air p frames k
+        go true e = rw (judged-so, ← frames-so, ← ran .1, e, ← frame-so, e)
+        go false e = rw (judged-so, ← frames-so, ← ran .1, e)

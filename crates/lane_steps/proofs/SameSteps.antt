@@ -19,7 +19,7 @@ use Rattle.lane_steps.specs.InPlace.{deliveredFrom, orderStopped, ordere
 -- ---- a hearing
 
 -- one that nothing refuses is the post's own step, and it took the frame in
-hear-ran : (air : List ℕ) (p : Post) (frames k : ℕ) → hearStopped air p frames k ≡ 0
+pub hear-ran : (air : List ℕ) (p : Post) (frames k : ℕ) → hearStopped air p frames k ≡ 0
     → (postHears air p frames k .post ≡ hearStep p (frameAt air k) .post) × (hearRefusal p (frameAt air k) ≡ 0)
 unfolding postHears
 hear-ran air p frames k h = go (eqb (stopsHearing air p frames k) 0) refl

@@ -11,6 +11,8 @@ use Rattle.post.specs.declared.Post.{Post}
 use Rattle.post.specs.Record.{withLog}
 use Rattle.deliver.specs.Known.{joinedFrom, knownAfter}
 use Rattle.steps.specs.Answers.{orderNumber, hearNumber}
+use Rattle.steps.specs.Refusals.{hearRefusal}
+use Rattle.steps.specs.Steps.{hearStep}
 use Rattle.steps.specs.InPlace.{orderTook, hearTook}
 use Rattle.yard.specs.Singles.{framesAfter, postOrders, postOrdersAir, postHears, postHearsAir, frameAt}
 
@@ -61,6 +63,10 @@ heardIn known air p frames k = record {
   frames = postHears air p frames k .frames;
   air = postHearsAir air p frames k;
 }
+
+-- the same of a frame f that was read already
+unfoldable pub frameHeardIn : List ℕ → List ℕ → Post → ℕ → Frame → Left
+frameHeardIn known air p frames f = finished known air (hearRefusal p f) (hearStep p f .frame) (hearTook p f) frames
 
 -- q has p's lane, posts and roles
 abbrev pub SameRoles : Post → Post → Type 0

@@ -14,7 +14,7 @@ ghost use Rattle.air.specs.Air.{airWith};
 ghost use Rattle.post.specs.Record.{postOf};
 ghost use Rattle.deliver.specs.Known.{knownAfter};
 ghost use Rattle.yard.specs.Singles.{framesAfter, postBeacons, postBeaconsAir};
-ghost use Rattle.lane_steps.specs.InPlace.{Left, deliveredFrom, orderedIn, heardIn};
+ghost use Rattle.lane_steps.specs.InPlace.{Left, deliveredFrom, orderedIn, frameHeardIn};
 
 // What a step in place leaves: 0 or the refusal, the post's numbers, and how many frames are on the air.
 pub struct Placed {
@@ -54,12 +54,13 @@ pub fn order(
     finish(took.number, head, after, last, table, stamps, log, known)
 }
 
-// The post hears frame k (13, 21, 25, then 21, 24, 26 and 28 to 30), and delivers; what it passes on is the air's next frame.
+// The post hears a frame that was read from the air (21, 24, 26 and 28 to 30), and delivers; what it passes on is the air's next
+// frame.
 pub fn hear(
     h: Head,
     air: &mut [u8],
     frames: u16,
-    k: usize,
+    f: Frame,
     last: &mut [u8; 8],
     table: &mut [u16; 136],
     stamps: &mut [u16; 128],
@@ -67,26 +68,9 @@ pub fn hear(
     log: &mut [u8; 128],
     known: &mut [u8; 8],
 ) -> Placed
-    ensures { λ r. ⌜ _≡_ {A = Left} (record { number = r .number; post = postOf (r .head) (now (last .exit)) (now (table .exit)) (now (stamps .exit)) (now (words .exit)) (now (log .exit)); known = now (known .exit); frames = r .frames; air = now (air .exit) }) (heardIn (now (known .entry)) (now (air .entry)) (postOf h (now (last .entry)) (now (table .entry)) (now (stamps .entry)) (now (words .entry)) (now (log .entry))) frames k) ⌝ }
+    ensures { λ r. ⌜ _≡_ {A = Left} (record { number = r .number; post = postOf (r .head) (now (last .exit)) (now (table .exit)) (now (stamps .exit)) (now (words .exit)) (now (log .exit)); known = now (known .exit); frames = r .frames; air = now (air .exit) }) (frameHeardIn (now (known .entry)) (now (air .entry)) (postOf h (now (last .entry)) (now (table .entry)) (now (stamps .entry)) (now (words .entry)) (now (log .entry))) frames f) ⌝ }
 {
-    let number = yard::parts::absent(air, h.lane, h.posts, frames, k);
-    if number != 0 {
-        return Placed {
-            number: number,
-            head: h,
-            frames: frames,
-        };
-    }
-    let got = yard::parts::read_frame(air, frames, k);
-    if got.refusal != 0 {
-        return Placed {
-            number: got.refusal,
-            head: h,
-            frames: frames,
-        };
-    }
-    let heard = got.frame;
-    let took = steps::hear_in(h, heard, last, table, stamps, words);
+    let took = steps::hear_in(h, f, last, table, stamps, words);
     let passed_on = took.frame;
     let after = pass_on(air, frames, passed_on);
     let head = took.head;

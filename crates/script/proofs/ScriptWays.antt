@@ -23,11 +23,14 @@ use Rattle.meaning.specs.Texts.{badText, postsText}
 use Rattle.meaning.specs.Script.{yardOf, worldAfter, refusedLines, scriptWorld, scriptText, printout, airAfter}
 use Rattle.fits.proofs.Theorem.{fits}
 use Rattle.fits.proofs.LineLengths.{accepted}
-use Rattle.fits.proofs.FirstLine.{yard-made, accepted-first}
+use Rattle.fits.proofs.FirstLine.{yard-accepted, yard-made, accepted-first}
+use Rattle.agreement.specs.Demand3.{freshWorld}
+use Rattle.agreement.proofs.Theorem.{agreement}
+use Rattle.roll.specs.Runs.{run}
 use Rattle.script.specs.Run.{bytesPrinted, outputAfter, airLeft}
 use Rattle.script.specs.declared.Sets.{Sets}
 use Rattle.script.specs.Lines.{world, setsOf, rest}
-use Rattle.script.specs.Rows.{Rows, rows, rowPost, rowKnown, rowPosts, rowsYard, Good}
+use Rattle.script.specs.Rows.{Rows, rows, rowPost, rowKnown, rowPosts, rowsYard, Good, Reached}
 
 -- a script that is not refused has 1 to 48,000 bytes
 judged-fits : (s : List ℕ) → judged s .number ≡ 0 → (0 < length s) × (length s ≤ 48000)
@@ -82,6 +85,33 @@ zero-good st = record {
   eight = (refl, refl, refl, refl, refl, refl, refl, refl, refl);
   known = λ i low. none-known (rowKnown zeroRows i) (rowPost st zeroRows i) (zero-row i low);
 }
+
+-- so demand 3 holds of it
+fresh-reached : (s air : List ℕ) (st : Sets) (k : Line) → lineAt s 0 ≡ k → numberOf k ≡ 0 → st ≡ setsOf k
+    → Reached (world (freshYard (st .present) (st .sources) (st .dests)) air)
+unfolding run
+fresh-reached s air st (Yard posts sources dests next) e z es =
+    let r = accepted s 0 (Yard posts sources dests next) e refl .0 in
+    rw es (record {
+      present = posts;
+      sources = sources;
+      dests = dests;
+      fresh = freshWorld posts sources dests air;
+      steps = [];
+      holds = agreement posts sources dests air (r .2) (r .3) (r .4) (yard-accepted posts sources dests (r .1) (r .5) (r .6));
+      is = refl;
+    })
+fresh-reached s air st (Order lane word next) e z es = absurd (omega (arith, accepted s 0 (Order lane word next) e z .0 .0))
+fresh-reached s air st (Hear lane frame next) e z es = absurd (omega (arith, accepted s 0 (Hear lane frame next) e z .0 .0))
+fresh-reached s air st (Beacon lane next) e z es = absurd (omega (arith, accepted s 0 (Beacon lane next) e z .0 .0))
+fresh-reached s air st (Roll next) e z es = absurd (omega (arith, accepted s 0 (Roll next) e z .0))
+fresh-reached s air st (Refused number) e z es = absurd (accepted s 0 (Refused number) e z .0)
+
+pub first-reached : (s air : List ℕ) (l : Line) (st : Sets) → judged s .number ≡ 0 → l ≡ lineAt s 0 → st ≡ setsOf l
+    → Reached (world (rowsYard st zeroRows 0 0 (replicate 128 0)) air)
+first-reached s air l st good el es =
+    let r = fresh-reached s air st (lineAt s 0) refl (accepted-first s good) (es ∙ ap setsOf el) in
+    rw (rows-fresh st) r
 
 -- the steps, then the posts
 pub good-ran : (s air exit output first : List ℕ) (l : Line) (st : Sets) (from fr be : ℕ) (R : Rows) (o p : Out)

@@ -11,7 +11,11 @@ use Rattle.post.specs.Record.{postOf}
 use Rattle.deliver.specs.Known.{Known}
 use Rattle.yard.specs.declared.Yard.{Yard}
 use Rattle.lane_steps.specs.InPlace.{SameRoles}
+use Rattle.yard.specs.Yards.{postAt}
+use Rattle.yard.specs.Worlds.{World}
+use Rattle.roll.specs.Runs.{Step, run}
 use Rattle.roll.specs.Loops.{postWorld, hearings}
+use Rattle.agreement.specs.Demand3.{Demand3}
 use Rattle.script.specs.declared.Sets.{Sets}
 
 -- the rows of the posts, and of each post up to which serials its log is known
@@ -102,3 +106,37 @@ withRow R i clock serial logged last table stamps words log known = record {
 abbrev pub HeardAll : Post → Post → List ℕ → ℕ → ℕ → List ℕ → List ℕ → List ℕ → Type 0
 HeardAll p q known frames after air exit ks =
     (postWorld q after exit ≡ hearings (postWorld p frames air) ks) × Known known q × SameRoles p q × (q .serial ≡ p .serial)
+
+-- ---- worlds of which demand 3 speaks
+
+-- a world that a list of steps led to from a fresh one
+pub record Reached (w : World) : Type 0 where
+  pub present : ℕ
+  pub sources : ℕ
+  pub dests : ℕ
+  pub fresh : World
+  pub steps : List Step
+  pub holds : Demand3 present sources dests fresh
+  pub is : w ≡ run fresh steps
+
+-- rows with so many frames on the air are those of such a world
+pub record RowsReached (s : Sets) (R : Rows) (frames : ℕ) (air : List ℕ) : Type 0 where
+  pub beacons : ℕ
+  pub first : List ℕ
+  pub reached : Reached (record { yard = rowsYard s R frames beacons first; air = air })
+
+-- the same, with these numbers of first frames
+pub record FirstReached (s : Sets) (R : Rows) (frames : ℕ) (first air : List ℕ) : Type 0 where
+  pub beacons : ℕ
+  pub reached : Reached (record { yard = rowsYard s R frames beacons first; air = air })
+
+-- the post of a lane in such a world
+pub record Stands (p : Post) (frames : ℕ) (air : List ℕ) : Type 0 where
+  pub world : World
+  pub reached : Reached world
+  pub low : p .lane < 8
+  pub eight : length (world .yard .posts) ≡ 8
+  pub here : postAt (world .yard) (p .lane) ≡ p
+  pub posts : world .yard .present ≡ p .posts
+  pub count : world .yard .frames ≡ frames
+  pub bytes : world .air ≡ air

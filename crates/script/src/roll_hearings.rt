@@ -1,5 +1,6 @@
 // The hearings of one post in a roll call, in place: first frames and beacons. The contracts cite specs/Rows.antt, and RollCall.antt
 // and Loops.antt of the crate `roll`.
+use crate::hearing;
 use frame::Serial;
 use post::Head;
 use post::Post;
@@ -15,7 +16,7 @@ ghost use Rattle.post.specs.Record.{postOf};
 ghost use Rattle.deliver.specs.Known.{Known};
 ghost use Rattle.yard.specs.Worlds.{hear, beacon};
 ghost use Rattle.roll.specs.Loops.{laneFrames, lanesFrames, beaconFrames};
-ghost use Rattle.script.specs.Rows.{HeardAll};
+ghost use Rattle.script.specs.Rows.{HeardAll, Stands};
 
 // What some hearings of one post leave: its numbers, and how many frames are on the air.
 pub(crate) struct PostRan {
@@ -38,7 +39,7 @@ pub(crate) fn hear_lanes(
     log: &mut [u8; 128],
     known: &mut [u8; 8],
 ) -> PostRan
-    requires { ⌜ Known (now known) (postOf h (now last) (now table) (now stamps) (now words) (now log)) ⌝ }
+    requires { ⌜ Known (now known) (postOf h (now last) (now table) (now stamps) (now words) (now log)) × Stands (postOf h (now last) (now table) (now stamps) (now words) (now log)) frames (now air) ⌝ }
     ensures { λ r. ⌜ HeardAll (postOf h (now (last .entry)) (now (table .entry)) (now (stamps .entry)) (now (words .entry)) (now (log .entry))) (postOf (r .head) (now (last .exit)) (now (table .exit)) (now (stamps .exit)) (now (words .exit)) (now (log .exit))) (now (known .exit)) frames (r .frames) (now (air .entry)) (now (air .exit)) (lanesFrames (now (first .entry)) (now (sent .entry)) p 8) ⌝ }
 {
     let mut next = h;
@@ -84,7 +85,7 @@ fn hear_lane(
     log: &mut [u8; 128],
     known: &mut [u8; 8],
 ) -> PostRan
-    requires { ⌜ Known (now known) (postOf h (now last) (now table) (now stamps) (now words) (now log)) ⌝ }
+    requires { ⌜ Known (now known) (postOf h (now last) (now table) (now stamps) (now words) (now log)) × Stands (postOf h (now last) (now table) (now stamps) (now words) (now log)) frames (now air) ⌝ }
     ensures { λ r. ⌜ HeardAll (postOf h (now (last .entry)) (now (table .entry)) (now (stamps .entry)) (now (words .entry)) (now (log .entry))) (postOf (r .head) (now (last .exit)) (now (table .exit)) (now (stamps .exit)) (now (words .exit)) (now (log .exit))) (now (known .exit)) frames (r .frames) (now (air .entry)) (now (air .exit)) (cond (eqb q p) [] (laneFrames (now (first .entry)) q (getD (now (sent .entry)) q 0))) ⌝ }
 {
     if q == p {
@@ -125,7 +126,7 @@ fn hear_serials(
     log: &mut [u8; 128],
     known: &mut [u8; 8],
 ) -> PostRan
-    requires { ⌜ Known (now known) (postOf h (now last) (now table) (now stamps) (now words) (now log)) ⌝ }
+    requires { ⌜ Known (now known) (postOf h (now last) (now table) (now stamps) (now words) (now log)) × Stands (postOf h (now last) (now table) (now stamps) (now words) (now log)) frames (now air) ⌝ }
     ensures { λ r. ⌜ HeardAll (postOf h (now (last .entry)) (now (table .entry)) (now (stamps .entry)) (now (words .entry)) (now (log .entry))) (postOf (r .head) (now (last .exit)) (now (table .exit)) (now (stamps .exit)) (now (words .exit)) (now (log .exit))) (now (known .exit)) frames (r .frames) (now (air .entry)) (now (air .exit)) (laneFrames (now (first .entry)) q n) ⌝ }
 {
     let mut next = h;
@@ -134,7 +135,7 @@ fn hear_serials(
     while serial < n {
         serial = serial + 1;
         let k = first_frame(first, q, serial);
-        let heard = lane_steps::hear(next, air, on_air, k, last, table, stamps, words, log, known);
+        let heard = hearing::hear(next, air, on_air, k, last, table, stamps, words, log, known);
         next = heard.head;
         on_air = heard.frames;
     }
@@ -166,7 +167,7 @@ pub(crate) fn hear_sources(
     log: &mut [u8; 128],
     known: &mut [u8; 8],
 ) -> PostRan
-    requires { ⌜ Known (now known) (postOf h (now last) (now table) (now stamps) (now words) (now log)) ⌝ }
+    requires { ⌜ Known (now known) (postOf h (now last) (now table) (now stamps) (now words) (now log)) × Stands (postOf h (now last) (now table) (now stamps) (now words) (now log)) frames (now air) ⌝ }
     ensures { λ r. ⌜ HeardAll (postOf h (now (last .entry)) (now (table .entry)) (now (stamps .entry)) (now (words .entry)) (now (log .entry))) (postOf (r .head) (now (last .exit)) (now (table .exit)) (now (stamps .exit)) (now (words .exit)) (now (log .exit))) (now (known .exit)) frames (r .frames) (now (air .entry)) (now (air .exit)) (beaconFrames sources from p 8) ⌝ }
 {
     let mut next = h;
@@ -215,11 +216,11 @@ fn hear_source(
     log: &mut [u8; 128],
     known: &mut [u8; 8],
 ) -> PostRan
-    requires { ⌜ Known (now known) (postOf h (now last) (now table) (now stamps) (now words) (now log)) ⌝ }
+    requires { ⌜ Known (now known) (postOf h (now last) (now table) (now stamps) (now words) (now log)) × Stands (postOf h (now last) (now table) (now stamps) (now words) (now log)) frames (now air) ⌝ }
     ensures { λ r. ⌜ HeardAll (postOf h (now (last .entry)) (now (table .entry)) (now (stamps .entry)) (now (words .entry)) (now (log .entry))) (postOf (r .head) (now (last .exit)) (now (table .exit)) (now (stamps .exit)) (now (words .exit)) (now (log .exit))) (now (known .exit)) frames (r .frames) (now (air .entry)) (now (air .exit)) (cond (hasLane sources i && not (eqb i p)) (k ∷ []) []) ⌝ }
 {
     if cells::has(sources, i) & (i != p) {
-        let heard = lane_steps::hear(h, air, frames, k, last, table, stamps, words, log, known);
+        let heard = hearing::hear(h, air, frames, k, last, table, stamps, words, log, known);
         let head = heard.head;
         PostRan {
             head: head,

@@ -16,7 +16,7 @@ ghost use Rattle.yard.specs.Worlds.{beacon, singles};
 ghost use Rattle.roll.specs.Answers.{rollNumber};
 ghost use Rattle.roll.specs.RollCall.{postsHear, beaconsSent, postsHearBeacons, rollCall, rollCallAir};
 ghost use Rattle.roll.specs.Loops.{world};
-ghost use Rattle.script.specs.Rows.{rows, rowsYard, Good};
+ghost use Rattle.script.specs.Rows.{rows, rowsYard, Good, Reached, RowsReached, FirstReached};
 
 // How many frames are on the air and how many beacons were sent.
 struct Sent {
@@ -41,7 +41,7 @@ pub(crate) fn call(
     frames: u16,
     beacons: u16,
 ) -> Stepped
-    requires { ⌜ Good s (rows (now clocks) (now serials) (now loggeds) (now lasts) (now tables) (now stamps) (now words) (now logs) (now knowns)) ⌝ }
+    requires { ⌜ Good s (rows (now clocks) (now serials) (now loggeds) (now lasts) (now tables) (now stamps) (now words) (now logs) (now knowns)) × Reached (world (rowsYard s (rows (now clocks) (now serials) (now loggeds) (now lasts) (now tables) (now stamps) (now words) (now logs) (now knowns)) frames beacons (now first)) (now air)) ⌝ }
     ensures { λ r. ⌜ (r .number ≡ rollNumber (rollCall (world (rowsYard s (rows (now (clocks .entry)) (now (serials .entry)) (now (loggeds .entry)) (now (lasts .entry)) (now (tables .entry)) (now (stamps .entry)) (now (words .entry)) (now (logs .entry)) (now (knowns .entry))) frames beacons (now (first .entry))) (now (air .entry))) .answer)) × (rowsYard s (rows (now (clocks .exit)) (now (serials .entry)) (now (loggeds .exit)) (now (lasts .exit)) (now (tables .exit)) (now (stamps .exit)) (now (words .exit)) (now (logs .exit)) (now (knowns .exit))) (r .frames) (r .beacons) (now (first .entry)) ≡ rollCall (world (rowsYard s (rows (now (clocks .entry)) (now (serials .entry)) (now (loggeds .entry)) (now (lasts .entry)) (now (tables .entry)) (now (stamps .entry)) (now (words .entry)) (now (logs .entry)) (now (knowns .entry))) frames beacons (now (first .entry))) (now (air .entry))) .yard) × (now (air .exit) ≡ rollCallAir (world (rowsYard s (rows (now (clocks .entry)) (now (serials .entry)) (now (loggeds .entry)) (now (lasts .entry)) (now (tables .entry)) (now (stamps .entry)) (now (words .entry)) (now (logs .entry)) (now (knowns .entry))) frames beacons (now (first .entry))) (now (air .entry)))) ⌝ }
     ensures good { λ _. ⌜ Good s (rows (now (clocks .exit)) (now (serials .entry)) (now (loggeds .exit)) (now (lasts .exit)) (now (tables .exit)) (now (stamps .exit)) (now (words .exit)) (now (logs .exit)) (now (knowns .exit))) ⌝ }
 {
@@ -124,7 +124,7 @@ fn hear_orders(
     air: &mut [u8],
     frames: u16,
 ) -> u16
-    requires { ⌜ Good s (rows (now clocks) (now serials) (now loggeds) (now lasts) (now tables) (now stamps) (now words) (now logs) (now knowns)) ⌝ }
+    requires { ⌜ Good s (rows (now clocks) (now serials) (now loggeds) (now lasts) (now tables) (now stamps) (now words) (now logs) (now knowns)) × FirstReached s (rows (now clocks) (now serials) (now loggeds) (now lasts) (now tables) (now stamps) (now words) (now logs) (now knowns)) frames (now first) (now air) ⌝ }
     ensures { λ r. ⌜ ((beacons : ℕ) → world (rowsYard s (rows (now (clocks .exit)) (now (serials .entry)) (now (loggeds .exit)) (now (lasts .exit)) (now (tables .exit)) (now (stamps .exit)) (now (words .exit)) (now (logs .exit)) (now (knowns .exit))) r beacons (now (first .entry))) (now (air .exit)) ≡ singles (world (rowsYard s (rows (now (clocks .entry)) (now (serials .entry)) (now (loggeds .entry)) (now (lasts .entry)) (now (tables .entry)) (now (stamps .entry)) (now (words .entry)) (now (logs .entry)) (now (knowns .entry))) frames beacons (now (first .entry))) (now (air .entry))) (postsHear (rowsYard s (rows (now (clocks .entry)) (now (serials .entry)) (now (loggeds .entry)) (now (lasts .entry)) (now (tables .entry)) (now (stamps .entry)) (now (words .entry)) (now (logs .entry)) (now (knowns .entry))) frames beacons (now (first .entry))) 8)) ⌝ }
     ensures good { λ _. ⌜ Good s (rows (now (clocks .exit)) (now (serials .entry)) (now (loggeds .exit)) (now (lasts .exit)) (now (tables .exit)) (now (stamps .exit)) (now (words .exit)) (now (logs .exit)) (now (knowns .exit))) ⌝ }
 {
@@ -223,7 +223,7 @@ fn hear_beacons(
     frames: u16,
     from: u16,
 ) -> u16
-    requires { ⌜ Good s (rows (now clocks) (now serials) (now loggeds) (now lasts) (now tables) (now stamps) (now words) (now logs) (now knowns)) ⌝ }
+    requires { ⌜ Good s (rows (now clocks) (now serials) (now loggeds) (now lasts) (now tables) (now stamps) (now words) (now logs) (now knowns)) × RowsReached s (rows (now clocks) (now serials) (now loggeds) (now lasts) (now tables) (now stamps) (now words) (now logs) (now knowns)) frames (now air) ⌝ }
     ensures { λ r. ⌜ ((beacons : ℕ) (first : List ℕ) → world (rowsYard s (rows (now (clocks .exit)) (now (serials .entry)) (now (loggeds .exit)) (now (lasts .exit)) (now (tables .exit)) (now (stamps .exit)) (now (words .exit)) (now (logs .exit)) (now (knowns .exit))) r beacons first) (now (air .exit)) ≡ singles (world (rowsYard s (rows (now (clocks .entry)) (now (serials .entry)) (now (loggeds .entry)) (now (lasts .entry)) (now (tables .entry)) (now (stamps .entry)) (now (words .entry)) (now (logs .entry)) (now (knowns .entry))) frames beacons first) (now (air .entry))) (postsHearBeacons (s .present) (s .sources) from 8)) ⌝ }
     ensures good { λ _. ⌜ Good s (rows (now (clocks .exit)) (now (serials .entry)) (now (loggeds .exit)) (now (lasts .exit)) (now (tables .exit)) (now (stamps .exit)) (now (words .exit)) (now (logs .exit)) (now (knowns .exit))) ⌝ }
 {

@@ -2,6 +2,7 @@
 use crate::Counted;
 use crate::Sets;
 use crate::Stepped;
+use crate::hearing;
 use frame::Serial;
 use frame::Stamp;
 use post::Head;
@@ -11,7 +12,7 @@ ghost use mathlib.Core.List.{List};
 ghost use Prim.Native.Nat.{ℕ};
 ghost use Rattle.steps.specs.Answers.{orderNumber, hearNumber, beaconNumber};
 ghost use Rattle.yard.specs.Singles.{yardOrders, yardOrdersAir, yardHears, yardHearsAir, yardBeacons, yardBeaconsAir};
-ghost use Rattle.script.specs.Rows.{rows, rowsYard, Good};
+ghost use Rattle.script.specs.Rows.{rows, rowsYard, Good, RowsReached};
 
 // Order (lane, word) in the yard.
 pub(crate) fn order(
@@ -91,7 +92,7 @@ pub(crate) fn hear(
     lane: u8,
     k: usize,
 ) -> Counted
-    requires { ⌜ Good s (rows (now clocks) (now serials) (now loggeds) (now lasts) (now tables) (now stamps) (now words) (now logs) (now knowns)) ⌝ }
+    requires { ⌜ Good s (rows (now clocks) (now serials) (now loggeds) (now lasts) (now tables) (now stamps) (now words) (now logs) (now knowns)) × RowsReached s (rows (now clocks) (now serials) (now loggeds) (now lasts) (now tables) (now stamps) (now words) (now logs) (now knowns)) frames (now air) ⌝ }
     ensures { λ r. ⌜ ((beacons : ℕ) (first : List ℕ) → (r .number ≡ hearNumber (yardHears (now (air .entry)) (rowsYard s (rows (now (clocks .entry)) (now (serials .entry)) (now (loggeds .entry)) (now (lasts .entry)) (now (tables .entry)) (now (stamps .entry)) (now (words .entry)) (now (logs .entry)) (now (knowns .entry))) frames beacons first) lane k .answer)) × (rowsYard s (rows (now (clocks .exit)) (now (serials .exit)) (now (loggeds .exit)) (now (lasts .exit)) (now (tables .exit)) (now (stamps .exit)) (now (words .exit)) (now (logs .exit)) (now (knowns .exit))) (r .frames) beacons first ≡ yardHears (now (air .entry)) (rowsYard s (rows (now (clocks .entry)) (now (serials .entry)) (now (loggeds .entry)) (now (lasts .entry)) (now (tables .entry)) (now (stamps .entry)) (now (words .entry)) (now (logs .entry)) (now (knowns .entry))) frames beacons first) lane k .yard) × (now (air .exit) ≡ yardHearsAir (now (air .entry)) (rowsYard s (rows (now (clocks .entry)) (now (serials .entry)) (now (loggeds .entry)) (now (lasts .entry)) (now (tables .entry)) (now (stamps .entry)) (now (words .entry)) (now (logs .entry)) (now (knowns .entry))) frames beacons first) lane k)) ⌝ }
     ensures good { λ _. ⌜ Good s (rows (now (clocks .exit)) (now (serials .exit)) (now (loggeds .exit)) (now (lasts .exit)) (now (tables .exit)) (now (stamps .exit)) (now (words .exit)) (now (logs .exit)) (now (knowns .exit))) ⌝ }
 {
@@ -111,7 +112,7 @@ pub(crate) fn hear(
         serial: Serial(serials[i]),
         logged: loggeds[i],
     };
-    let done = lane_steps::hear(
+    let done = hearing::hear(
         h,
         air,
         frames,

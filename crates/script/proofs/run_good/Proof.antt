@@ -1,4 +1,4 @@
-use Rattle.script.proofs.ScriptWays.{second-line, zero-good, good-ran}
+use Rattle.script.proofs.ScriptWays.{second-line, zero-good, first-reached, good-ran}
 use borrow.Author.Needs.{needs}
 use Rattle.script.proofs.run_good.Statement.{statement}
 use Rattle.script.proofs.run_good.Tie as tie
@@ -6,7 +6,7 @@ use Rattle.script.proofs.run_good.Tie as tie
 run-lines-requires : tie.Need-run-lines-requires
 run-lines-requires c κs =
     let fit = second-line _ _ _ (c .before .before .before .before .before .before .before .before .before .before .before .before .before .before .before .before .before .before .pre) (c .before .before .before .before .before .before .before .before .before .before .before .before .before .before .read-line .ensures) (c .before .before .before .before .before .before .before .before .before .before .before .before .next-of .ensures) in
-    (fit .0, fit .1, zero-good _)
+    (fit .0, fit .1, zero-good _, first-reached _ _ _ _ (c .before .before .before .before .before .before .before .before .before .before .before .before .before .before .before .before .before .before .pre) (c .before .before .before .before .before .before .before .before .before .before .before .before .before .before .read-line .ensures) (c .before .before .before .before .before .before .before .before .before .before .before .before .before .sets-of .ensures))
 
 returns : tie.Need-returns
 returns c = good-ran _ _ _ _ _ _ _ _ _ _ _ _ _ (c .before .before .before .before .before .before .before .before .before .before .before .before .before .before .before .before .before .before .before .before .before .before .before .before .before .before .before .before .before .before .before .before .before .pre) (c .before .before .before .before .before .before .before .before .before .before .before .before .before .before .before .before .before .before .before .before .before .before .before .before .before .before .before .before .before .read-line .ensures) (c .before .before .before .before .before .before .before .before .before .before .before .before .before .before .before .before .before .before .before .before .before .before .before .before .before .before .before .before .sets-of .ensures) (c .before .before .before .before .before .before .before .before .before .before .before .before .before .before .before .before .before .before .before .before .before .before .before .before .before .before .before .next-of .ensures) (c .before .before .before .before .before .before .before .before .before .before .before .before .before .before .run-lines .ensures .0) (c .before .before .before .before .before .before .before .before .before .before .before .before .before .before .run-lines .ensures .1) (c .before .before .put-posts .ensures _ _ _ _ _ _)

@@ -1,5 +1,6 @@
 use Rattle.script.specs.Lines.{world}
-use Rattle.script.specs.Rows.{rows, rowsYard, Good}
+use Rattle.script.specs.Rows.{rows, rowsYard, Good, Reached}
+use Rattle.script.proofs.SoundLaws.{reached-line}
 use Rattle.script.proofs.LineLaws.{Left, none-left, left-more}
 use Rattle.reader.proofs.LinesLaws.{line-above}
 use Rattle.text.specs.Writing.{out}
@@ -18,16 +19,17 @@ Inv-loop script air₀ output₀ s clocks₀ serials₀ loggeds₀ lasts₀ tabl
     × Good s (rows clocks serials loggeds lasts tables stamps words logs knowns)
     × (length air ≡ length air₀)
     × (length output ≡ length output₀)
+    × Reached (world (rowsYard s (rows clocks serials loggeds lasts tables stamps words logs knowns) frames beacons first) air)
 
 abbrev μ-loop : tie.MeasureT-loop
 μ-loop script air₀ output₀ s clocks₀ serials₀ loggeds₀ lasts₀ tables₀ stamps₀ words₀ logs₀ knowns₀ first₀ from frames₀ beacons₀ at₀ line₀ to₀ air output clocks serials loggeds lasts tables stamps words logs knowns first frames beacons at line to =
     length script - at
 
 loop-holds : tie.Need-loop-holds Inv-loop μ-loop
-loop-holds c = (omega (arith, c .before .before .before .pre .1), (refl, refl), c .before .before .before .pre .2, refl, refl)
+loop-holds c = (omega (arith, c .before .before .before .pre .1), (refl, refl), c .before .before .before .pre .2, refl, refl, c .before .before .before .pre .3)
 
 run-step-requires : tie.Need-run-step-requires Inv-loop μ-loop
-run-step-requires c κs = c .before .before .before .before .before .before .before .before .before .before .before .before .before .loop .inv .2
+run-step-requires c κs = (c .before .before .before .before .before .before .before .before .before .before .before .before .before .loop .inv .2, c .before .before .before .before .before .before .before .before .before .before .before .before .before .loop .inv .5)
 
 add-line : tie.Need-add-line Inv-loop μ-loop
 add-line c = record { fits = omega (arith, c .before .before .before .before .before .before .before .before .before .before .before .before .before .before .before .before .loop .inv .0, c .before .before .before .before .before .before .before .before .before .before .before .before .before .before .before .loop-test .taken, c .before .before .before .before .before .before .before .before .before .before .before .before .before .before .before .before .before .before .before .before .pre .0) }
@@ -42,6 +44,7 @@ loop-again c = (
   c .before .before .before .before .before .before .before .run-step .ensures .1,
   c .before .before .before .before .before .before .before .run-step .kept .1 .1 .1 .1 .1 .1 .1 .1 .1 .1 .1 .0 ∙ c .before .before .before .before .before .before .before .before .before .before .before .before .before .before .before .before .before .before .before .before .before .loop .inv .3,
   c .before .before .before .put-refusal .kept .0 ∙ c .before .before .before .before .before .before .before .before .before .before .before .before .before .before .before .before .before .before .before .before .before .loop .inv .4,
+  reached-line _ _ _ _ (c .before .before .before .before .before .before .before .run-step .ensures .0 .1) (c .before .before .before .before .before .before .before .run-step .ensures .0 .2) (c .before .before .before .before .before .before .before .before .before .before .before .before .before .before .before .before .before .before .before .before .before .loop .inv .5),
 )
 
 same-length : tie.Need-same-length Inv-loop μ-loop

@@ -4,7 +4,7 @@ use Rattle.script.proofs.roll_hearings.hear_lane.Statement.{statement}
 use Rattle.script.proofs.roll_hearings.hear_lane.Tie as tie
 
 returns : tie.Need-returns
-returns c = lane-own _ _ _ _ (c .before .before .args .first .now) (c .before .before .args .sent .now) (c .before .before .args .p) (c .before .before .args .q) (c .if1 .taken) (c .before .before .pre)
+returns c = lane-own _ _ _ _ (c .before .before .args .first .now) (c .before .before .args .sent .now) (c .before .before .args .p) (c .before .before .args .q) (c .if1 .taken) (c .before .before .pre .0)
 
 hear-serials-requires : tie.Need-hear-serials-requires
 hear-serials-requires c κs = c .before .before .before .before .before .before .before .before .before .before .pre

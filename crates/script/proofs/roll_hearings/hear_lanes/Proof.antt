@@ -1,6 +1,7 @@
 use Rattle.post.specs.Record.{postOf}
 use Rattle.roll.specs.Loops.{lanesFrames}
 use Rattle.script.specs.Rows.{HeardAll}
+use Rattle.script.proofs.SoundLaws.{stands-more}
 use Rattle.script.proofs.HeardLaws.{heard-none, lanes-more}
 use lib.ListN.{length}
 use Prim.Native.Nat.{_≤_, _-_}
@@ -21,10 +22,10 @@ abbrev μ-loop : tie.MeasureT-loop
 
 loop-holds : tie.Need-loop-holds Inv-loop μ-loop
 unfolding lanesFrames
-loop-holds c = (omega arith, heard-none _ _ _ _ (c .before .pre), refl)
+loop-holds c = (omega arith, heard-none _ _ _ _ (c .before .pre .0), refl)
 
 hear-lane-requires : tie.Need-hear-lane-requires Inv-loop μ-loop
-hear-lane-requires c κs = c .before .before .before .before .before .before .before .before .loop .inv .1 .1
+hear-lane-requires c κs = (c .before .before .before .before .before .before .before .before .loop .inv .1 .1, stands-more _ _ _ _ _ _ _ _ (c .before .before .before .before .before .before .before .before .loop .inv .1) (c .before .before .before .before .before .before .before .before .before .before .pre .1))
 
 loop-again : tie.Need-loop-again Inv-loop μ-loop
 loop-again c = (

@@ -1,6 +1,7 @@
 use Rattle.post.specs.Record.{postOf}
 use Rattle.roll.specs.Loops.{laneFrames}
 use Rattle.script.specs.Rows.{HeardAll}
+use Rattle.script.proofs.SoundLaws.{stands-more}
 use Rattle.script.proofs.HeardLaws.{heard-none, serial-more}
 use lib.ListN.{length}
 use Prim.Native.Nat.{_≤_, _-_}
@@ -21,7 +22,10 @@ abbrev μ-loop : tie.MeasureT-loop
 
 loop-holds : tie.Need-loop-holds Inv-loop μ-loop
 unfolding laneFrames
-loop-holds c = (omega arith, heard-none _ _ _ _ (c .before .pre), refl)
+loop-holds c = (omega arith, heard-none _ _ _ _ (c .before .pre .0), refl)
+
+hear-requires : tie.Need-hear-requires Inv-loop μ-loop
+hear-requires c κs = stands-more _ _ _ _ _ _ _ _ (c .before .before .before .before .before .before .before .before .before .loop .inv .1) (c .before .before .before .before .before .before .before .before .before .before .before .pre .1)
 
 loop-again : tie.Need-loop-again Inv-loop μ-loop
 loop-again c = (
@@ -39,4 +43,4 @@ returns c =
     rw e at (c .before .loop .inv .1)
 
 pub hear-serials-spec : {M : Type 1} → statement M
-hear-serials-spec = tie.close (tie.spec Inv-loop μ-loop loop-holds (λ c. search needs) (λ c κs. tt) (λ c κs. tt) (λ c. search needs) loop-again same-length returns)
+hear-serials-spec = tie.close (tie.spec Inv-loop μ-loop loop-holds (λ c. search needs) (λ c κs. tt) hear-requires (λ c. search needs) loop-again same-length returns)

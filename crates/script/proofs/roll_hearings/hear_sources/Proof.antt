@@ -3,6 +3,7 @@ use Rattle.roll.specs.RollCall.{sourcesBelow}
 use Rattle.roll.specs.Loops.{beaconFrames}
 use Rattle.roll.proofs.PostTurns.{below-more}
 use Rattle.script.specs.Rows.{HeardAll}
+use Rattle.script.proofs.SoundLaws.{stands-more}
 use Rattle.script.proofs.HeardLaws.{heard-none, sources-more}
 use lib.ListN.{length}
 use Prim.Native.Nat.{_≤_, _-_}
@@ -25,10 +26,10 @@ abbrev μ-loop : tie.MeasureT-loop
 
 loop-holds : tie.Need-loop-holds Inv-loop μ-loop
 unfolding beaconFrames sourcesBelow
-loop-holds c = (omega arith, heard-none _ _ _ _ (c .before .pre), refl, refl, omega arith)
+loop-holds c = (omega arith, heard-none _ _ _ _ (c .before .pre .0), refl, refl, omega arith)
 
 hear-source-requires : tie.Need-hear-source-requires Inv-loop μ-loop
-hear-source-requires c κs = c .before .before .before .before .before .before .before .before .loop .inv .1 .1
+hear-source-requires c κs = (c .before .before .before .before .before .before .before .before .loop .inv .1 .1, stands-more _ _ _ _ _ _ _ _ (c .before .before .before .before .before .before .before .before .loop .inv .1) (c .before .before .before .before .before .before .before .before .before .before .pre .1))
 
 add-below : tie.Need-add-below Inv-loop μ-loop
 add-below c = let more = below-more (c .before .before .before .before .before .before .before .before .before .before .before .before .before .before .before .before .args .sources) _ _ _ _ (c .before .before .before .before .before .before .before .before .before .before .before .before .before .before .loop .inv .3) (c .before .has .ensures) (c .pick .ensures) in record { fits = omega (arith, more .1) }

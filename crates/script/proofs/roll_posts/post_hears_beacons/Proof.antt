@@ -1,4 +1,5 @@
 use Rattle.roll.specs.Loops.{beaconFrames}
+use Rattle.script.proofs.SoundLaws.{row-stands}
 use Rattle.script.proofs.HeardLaws.{hearings-row, post-heard, no-post}
 use Rattle.script.proofs.TestLaws.{not-false, not-true}
 use borrow.Author.Needs.{needs, scaled-fits}
@@ -10,7 +11,7 @@ returns : tie.Need-returns
 returns c = no-post _ _ _ _ (beaconFrames (c .before .before .before .args .s .sources) (c .before .before .before .args .from) (c .before .before .before .args .p) 8) (c .before .before .before .args .p) _ (c .before .has .ensures) (not-true _ (c .if1 .taken)) (c .before .before .before .pre .1)
 
 hear-sources-requires : tie.Need-hear-sources-requires
-hear-sources-requires c κs = c .before .before .before .before .before .before .before .before .before .before .before .before .before .pre .1 .known _ (c .before .before .before .before .before .before .before .before .before .before .before .before .before .pre .0)
+hear-sources-requires c κs = (c .before .before .before .before .before .before .before .before .before .before .before .before .before .pre .1 .known _ (c .before .before .before .before .before .before .before .before .before .before .before .before .before .pre .0), row-stands _ _ _ _ _ (c .before .before .before .before .before .before .before .before .before .before .before .before .before .pre .0) (c .before .before .before .before .before .before .before .before .before .before .before .before .before .pre .2))
 
 returns-2 : tie.Need-returns-2
 returns-2 c = post-heard _ _ _ _ _ _ (beaconFrames (c .before .before .before .before .before .before .before .before .before .before .before .before .before .before .before .before .before .args .s .sources) (c .before .before .before .before .before .before .before .before .before .before .before .before .before .before .before .before .before .args .from) (c .before .before .before .before .before .before .before .before .before .before .before .before .before .before .before .before .before .args .p) 8) (c .before .before .before .before .before .before .before .before .before .before .before .before .before .before .before .before .before .args .p) _ _ (c .before .before .before .before .before .before .before .before .before .before .before .before .before .before .before .has .ensures) (not-false _ (c .before .before .before .before .before .before .before .before .before .before .before .before .before .before .if1 .left)) (hearings-row (c .before .before .before .before .before .before .before .before .before .before .before .before .before .before .before .before .before .args .s) _ _ (c .before .before .before .before .before .before .before .before .before .before .before .before .before .before .before .before .before .pre .0) (c .before .before .before .before .before .before .before .before .before .before .before .before .before .before .before .before .before .pre .1) _ _ _ _ _ _ _ _ _ _ _ _ (c .before .before .before .hear-sources .ensures))

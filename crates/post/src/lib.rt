@@ -82,11 +82,14 @@ pub fn raise_all(table: &mut [u16; 136], entries: [Entry; 8])
     }
 }
 
+// Nothing is written where the stamp is not larger: most entries of a frame are known.
 fn raise(table: &mut [u16; 136], lane: u8, e: Entry)
     ensures { λ _. ⌜ now (table .exit) ≡ raised (now (table .entry)) lane e ⌝ }
 {
     let old = cells::stamp_under(table, lane, e.serial);
-    cells::put_stamp_under(table, lane, e.serial, cells::later(old, e.stamp))
+    if old.0 < e.stamp.0 {
+        cells::put_stamp_under(table, lane, e.serial, e.stamp);
+    }
 }
 
 // The newest entry of each lane.

@@ -1,5 +1,5 @@
 // One post by value: its record, and the parts of a step that work on one of its arrays.
-// The contracts cite specs/Record.antt, specs/Newest.antt and specs/Taking.antt.
+// The contracts cite specs/Record.antt, specs/Newest.antt and specs/Taking.antt, those of private functions specs/Loops.antt.
 use frame::Entry;
 use frame::Frame;
 use frame::Serial;
@@ -103,6 +103,7 @@ pub fn newest_entries(table: &[u16; 136]) -> [Entry; 8]
     entries
 }
 
+// No entry.
 fn none() -> Entry
     ensures { λ r. ⌜ r ≡ noEntry ⌝ }
 {

@@ -1,5 +1,5 @@
 -- The newest entry of a lane is its greatest stamp with the last serial that it stands under. Assumes nothing.
-use mathlib.Core.Path.{_≡_, refl, sym}
+use mathlib.Core.Path.{_≡_, refl}
 use mathlib.Core.Bool.{Bool, true, false, cond, _&&_}
 use mathlib.Core.List.{List}
 use Prim.Native.Nat.{ℕ, zero, suc, _+_, _-_, _*_, _<_, _≤_, max}
@@ -72,14 +72,16 @@ last-bound table first m (suc n) = larger-bound (lastBelow table first m n) n (e
 abbrev entryOf : ℕ → ℕ → Entry
 entryOf serial stamp = record { serial = record { 0 = serial }; stamp = record { 0 = stamp } }
 
--- of the greatest stamp so far and one more: `last` gives the last serial of a stamp, among the first n
+-- the entry of the greatest stamp g, where `last` gives a stamp's last serial
+abbrev entryBy : (ℕ → ℕ) → ℕ → Entry
+entryBy last g = entryOf (cond (ltb 0 g) (last g) 0) g
+
+-- of the greatest stamp below n and the stamp x under n
 newer-is : (last : ℕ → ℕ) (g x n : ℕ) → ((m : ℕ) → last m ≤ n)
-    → cond (ltb 0 x && leb g x) (entryOf n x) (entryOf (cond (ltb 0 g) (last g) 0) g)
-    ≡ entryOf (cond (ltb 0 (max g x)) (max (last (max g x)) (cond (eqb x (max g x)) n 0)) 0) (max g x)
+    → cond (ltb 0 x && leb g x) (entryOf n x) (entryBy last g) ≡ entryBy (λ m. max (last m) (cond (eqb x m) n 0)) (max g x)
 newer-is last g x n h = go (ltb 0 x) (leb g x) (eqb x g) refl refl refl where
   go : (a b c : Bool) → ltb 0 x ≡ a → leb g x ≡ b → eqb x g ≡ c
-      → cond (ltb 0 x && leb g x) (entryOf n x) (entryOf (cond (ltb 0 g) (last g) 0) g)
-      ≡ entryOf (cond (ltb 0 (max g x)) (max (last (max g x)) (cond (eqb x (max g x)) n 0)) 0) (max g x)
+      → cond (ltb 0 x && leb g x) (entryOf n x) (entryBy last g) ≡ entryBy (λ m. max (last m) (cond (eqb x m) n 0)) (max g x)
   go true true c p q e =
       let m : max g x ≡ x = omega (arith, leb-true g x q) in
       let l : max (last x) n ≡ n = omega (arith, h x) in
@@ -101,23 +103,23 @@ newer-is last g x n h = go (ltb 0 x) (leb g x) (eqb x g) refl refl refl where
       rw (p, m, e, l)
 
 -- so the newest entry below n is known from the two loops
-step-is : (table : List ℕ) (lane n : ℕ) (best : Entry) (last : ℕ → ℕ) (g : ℕ) → ((m : ℕ) → last m ≤ n)
-    → best ≡ entryOf (cond (ltb 0 g) (last g) 0) g
-    → newer table lane n best
-    ≡ entryOf (cond (ltb 0 (max g (getD table (lane * 17 + n) 0))) (max (last (max g (getD table (lane * 17 + n) 0))) (cond (eqb (getD table (lane * 17 + n) 0) (max g (getD table (lane * 17 + n) 0))) n 0)) 0) (max g (getD table (lane * 17 + n) 0))
+step-is : (table : List ℕ) (lane n : ℕ) (best : Entry) (last : ℕ → ℕ) (g x : ℕ) → ((m : ℕ) → last m ≤ n)
+    → best ≡ entryBy last g → getD table (lane * 17 + n) 0 ≡ x
+    → newer table lane n best ≡ entryBy (λ m. max (last m) (cond (eqb x m) n 0)) (max g x)
 unfolding newer stampUnder
-step-is table lane n best last g h e = rw e (newer-is last g (getD table (lane * 17 + n) 0) n h)
+step-is table lane n best last g x h e q = rw (e, q) (newer-is last g x n h)
 
 newest-below : (table : List ℕ) (lane n : ℕ)
-    → newestBelow table lane n
-    ≡ entryOf (cond (ltb 0 (greatestBelow table (lane * 17) n)) (lastBelow table (lane * 17) (greatestBelow table (lane * 17) n) n) 0) (greatestBelow table (lane * 17) n)
+    → newestBelow table lane n ≡ entryBy (λ m. lastBelow table (lane * 17) m n) (greatestBelow table (lane * 17) n)
 unfolding newestBelow greatestBelow lastBelow
 newest-below table lane zero = refl
-newest-below table lane (suc n) = step-is table lane n _ (λ m. lastBelow table (lane * 17) m n) (greatestBelow table (lane * 17) n) (λ m. last-bound table (lane * 17) m n) (newest-below table lane n)
+newest-below table lane (suc n) =
+    step-is table lane n _ (λ m. lastBelow table (lane * 17) m n) (greatestBelow table (lane * 17) n) _
+    (λ m. last-bound table (lane * 17) m n) (newest-below table lane n) refl
 
 -- the two ways out
-pub newest-none : (table : List ℕ) (lane first g : ℕ) (r : Entry) → first ≡ lane * 17 → g ≡ greatestBelow table first 17 → g ≡ 0 → r ≡ noEntry
-    → r ≡ newest table lane
+pub newest-none : (table : List ℕ) (lane first g : ℕ) (r : Entry) → first ≡ lane * 17 → g ≡ greatestBelow table first 17
+    → g ≡ 0 → r ≡ noEntry → r ≡ newest table lane
 newest-none table lane first g r e p z q =
     let k : greatestBelow table (lane * 17) 17 ≡ 0 = cc in
     rw (newest-below table lane 17, k) q
@@ -134,8 +136,8 @@ pub entries-first : (table : List ℕ) (e : Entry) → e ≡ noEntry → replica
 unfolding entriesBelow
 entries-first table e p = rw p
 
-pub entries-more : (table : List ℕ) (n : ℕ) (es r : List Entry) (e : Entry) → es ≡ entriesBelow table n → e ≡ newest table n → r ≡ set es n e
-    → r ≡ entriesBelow table (n + 1)
+pub entries-more : (table : List ℕ) (n : ℕ) (es r : List Entry) (e : Entry) → es ≡ entriesBelow table n → e ≡ newest table n
+    → r ≡ set es n e → r ≡ entriesBelow table (n + 1)
 unfolding entriesBelow
 entries-more table n es r e p q s = rw (add-one, ← p, ← q) s
 

@@ -1,5 +1,5 @@
 // One post by value: its record, and the parts of a step that work on one of its arrays.
-// The contracts cite specs/Record.antt, specs/Newest.antt and specs/Taking.antt.
+// The contracts cite specs/Record.antt, specs/Newest.antt and specs/Taking.antt, those of private functions specs/Loops.antt.
 use frame::Entry;
 use frame::Frame;
 use frame::Serial;
@@ -82,11 +82,14 @@ pub fn raise_all(table: &mut [u16; 136], entries: [Entry; 8])
     }
 }
 
+// Nothing is written where the stamp is not larger: most entries of a frame are known.
 fn raise(table: &mut [u16; 136], lane: u8, e: Entry)
     ensures { λ _. ⌜ now (table .exit) ≡ raised (now (table .entry)) lane e ⌝ }
 {
     let old = cells::stamp_under(table, lane, e.serial);
-    cells::put_stamp_under(table, lane, e.serial, cells::later(old, e.stamp))
+    if old.0 < e.stamp.0 {
+        cells::put_stamp_under(table, lane, e.serial, e.stamp);
+    }
 }
 
 // The newest entry of each lane.
@@ -100,6 +103,7 @@ pub fn newest_entries(table: &[u16; 136]) -> [Entry; 8]
     entries
 }
 
+// No entry.
 fn none() -> Entry
     ensures { λ r. ⌜ r ≡ noEntry ⌝ }
 {

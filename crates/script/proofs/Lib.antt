@@ -1,7 +1,7 @@
 pub mod RowLaws
 pub mod RowSteps
 pub mod SoundLaws
-pub mod LeanWays
+pub mod HearingWays
 pub mod HeardLaws
 pub mod RollLaws
 pub mod PrintLaws

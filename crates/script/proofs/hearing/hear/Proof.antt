@@ -1,6 +1,6 @@
 use borrow.Author.Needs.{needs}
 use Rattle.lane_steps.proofs.HearWays.{hear-absent}
-use Rattle.script.proofs.LeanWays.{hear-refused, hear-next, hear-other, chained, not-next, raised-so}
+use Rattle.script.proofs.HearingWays.{hear-refused, hear-next, hear-other, chained, not-next, raised-so}
 use Rattle.script.proofs.hearing.hear.Statement.{statement}
 use Rattle.script.proofs.hearing.hear.Tie as tie
 

@@ -162,8 +162,8 @@ module _ (present sources dests : ℕ) (air : List ℕ) (small : present < 256) 
       refusals = λ steps s. each steps s .number;
       stays = λ steps s h. each steps s .stays (rw (each steps s .number) at h);
       frames = λ steps. good steps .airOk .framesCount ∙ ap (λ (n : ℕ). n + run w steps .yard .beacons) (taken-total (run w steps));
-      orderFrames = λ steps. rw (← taken-total (run w steps)) (total-bound R (yardView (run w steps)) (good steps .yardOk));
-      beaconFrames = λ steps. good steps .airOk .beaconsAtMost;
+      takenBound = λ steps. rw (← taken-total (run w steps)) (total-bound R (yardView (run w steps)) (good steps .yardOk));
+      beaconBound = λ steps. good steps .airOk .beaconsAtMost;
       serials = λ steps lane. serials R w steps lane (good steps .yardOk) (good steps .sentListed);
       records = λ steps lane l. valid-judged (postAt (run w steps .yard) lane) (reached steps .sound .post lane l .valid);
       firsts = firsts;
@@ -201,8 +201,8 @@ module _ (present sources dests : ℕ) (air : List ℕ) (small : present < 256) 
       refusals = λ steps s. rw (stands steps) (each-refused w bad s .number);
       stays = λ steps s h. rw (stands steps) (each-refused w bad s .stays);
       frames = λ steps. rw (stands steps) none-aired;
-      orderFrames = λ steps. rw (stands steps) (omega (arith, none-taken));
-      beaconFrames = λ steps. rw (stands steps) (unfold freshYard in omega arith);
+      takenBound = λ steps. rw (stands steps) (omega (arith, none-taken));
+      beaconBound = λ steps. rw (stands steps) (unfold freshYard in omega arith);
       serials = λ steps lane. record {
         few = omega (arith, no-serial steps lane);
         only = rw (nothing-sent steps) (λ o m. absurd m);

@@ -97,8 +97,8 @@ pub record Demand3 (present sources dests : ℕ) (w : World) : Type 0 where
   -- every broadcast is on the air, a frame for each order that a post has taken and for each beacon: the air, of 2,048 frames, never overflows
   pub frames : (steps : List Step) → run w steps .yard .frames ≡ ordersTaken (run w steps) + run w steps .yard .beacons
   -- "At most 1,024 order frames can arise (8 lanes, 16 orders, 8 posts) and 1,024 beacons are allowed."
-  pub orderFrames : (steps : List Step) → ordersTaken (run w steps) ≤ 1024
-  pub beaconFrames : (steps : List Step) → run w steps .yard .beacons ≤ 1024
+  pub takenBound : (steps : List Step) → ordersTaken (run w steps) ≤ 1024
+  pub beaconBound : (steps : List Step) → run w steps .yard .beacons ≤ 1024
   pub serials : (steps : List Step) (lane : ℕ) → Serials w steps lane
   -- no record in a yard is refused by 12
   pub records : (steps : List Step) (lane : ℕ) → lane < 8 → badRecord (postAt (run w steps .yard) lane) ≡ false

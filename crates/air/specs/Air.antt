@@ -28,7 +28,8 @@ stretchAt air k = take 32 (drop (32 * k) air)
 unfoldable pub stretchOf : List ℕ → ℕ → ℕ → List ℕ
 stretchOf air frames k = cond (eqb (stretchRefusal air frames k) 0) (stretchAt air k) []
 
--- the refusal of a frame to be written as frame k: 6 where the air has no 32 bytes at 32 × k, 7 to 11, 13, or 0
+-- the refusal of a frame to be written as frame k: 6 where k is 2,048 or more,
+-- which is past every air of 65,536 bytes, 7 to 11, 13, or 0
 unfoldable pub placeRefusal : List ℕ → ℕ → Frame → ℕ
 placeRefusal air k f =
     cond (not (ltb k 2048)) 6 (cond (not (eqb (frameRefusal f) 0)) (frameRefusal f) (cond (badAir air) 13 0))

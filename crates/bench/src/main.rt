@@ -1,5 +1,5 @@
-// The yard bench of document 01: runs each case and prints what was expected and what came.
-// crates/table proves the same cases of the definitions, in one joint table.
+// The yard bench of document 01: prints of each case what was expected and what came. What must come stands in the file
+// `stdout` of this crate, and the gate compares. The joint table of crates/script_table proves the same of the definitions.
 mod frames;
 mod posts;
 mod printing;

@@ -1,21 +1,20 @@
 -- Passing over orders known to be logged changes no delivery, and what is known stays so. Assumes nothing.
 use mathlib.Core.Path.{_≡_, refl, sym, ap, _∙_}
-use mathlib.Core.List.{List, [], _∷_, map}
+use mathlib.Core.List.{List, [], _∷_}
 use mathlib.Core.Bool.{Bool, true, false, cond, not, _&&_, _||_}
 use Prim.Native.Nat.{ℕ, zero, suc, _+_, _-_, _*_, _/_, _%_, _<_, _≤_, min}
 use native.Mathlib.Omega.{arith}
 use native.Mathlib.Decide.{ℕ-discrete, decLt, decLe}
 use lib.Dec.{ltb, eqb}
-use lib.ListN.{length, getD, set, replicate, getD-replicate, List·getD-eq-default}
+use lib.ListN.{length, getD, set, replicate, getD-replicate}
 use lib.Seq.{sets, getD-set-same, getD-set-other, set-out}
 use borrow.Author.Tests.{ltb-true, eqb-true, eq-eqb}
 use Rattle.frame.specs.Lanes.{anyBelow}
-use Rattle.cells.specs.Tables.{keyOf}
 use Rattle.post.specs.declared.Post.{Post}
 use Rattle.post.specs.Record.{isDest, withLog}
 use Rattle.deliver.specs.declared.NewLog.{NewLog}
 use Rattle.deliver.specs.declared.Delivered.{Delivered}
-use Rattle.deliver.specs.Delivery.{allBelow, agrees, isTaken, isLogged, isDue, stampAt, dueBelow, sort, duePlaces, dueLog, delivered}
+use Rattle.deliver.specs.Delivery.{allBelow, agrees, isTaken, isLogged, isDue, stampAt, dueBelow, duePlaces, dueLog, delivered}
 use Rattle.deliver.specs.Known.{Known, isDueFrom, dueBelowFrom, duePlacesFrom, dueLogFrom, joinedFrom, advanced, knownBelow, knownAfter}
 
 -- ---- a test at some number below n
@@ -119,10 +118,6 @@ joined-is known p all = rw (log-from known p all) (go (isDest p (p .lane)))
 -- the post is that of a delivery that knows nothing
 pub joined-post : (known : List ℕ) (p : Post) → Known known p → withLog p (joinedFrom known p .log) (joinedFrom known p .logged) ≡ delivered p .post
 joined-post known p all = ap (λ (d : Delivered). d .post) (joined-is known p all)
-
--- and so is the count
-pub joined-count : (known : List ℕ) (p : Post) → Known known p → joinedFrom known p .count ≡ delivered p .count
-joined-count known p all = ap (λ (d : Delivered). d .count) (joined-is known p all)
 
 -- ---- what is known after it
 

@@ -1,10 +1,10 @@
 -- The ways through `join` and `deliver`. Assumes nothing.
-use mathlib.Core.Path.{_≡_, refl, sym, ap, _∙_}
+use mathlib.Core.Path.{_≡_, sym, ap, _∙_}
 use mathlib.Core.List.{List, map}
 use mathlib.Core.Bool.{Bool, true, false}
 use Prim.Native.Nat.{ℕ, _+_, _-_, _%_, _≤_, min}
 use native.Mathlib.Omega.{arith}
-use lib.ListN.{length, take, replicate, length-take, length-map}
+use lib.ListN.{length, replicate, length-take, length-map}
 use lib.Seq.{sets}
 use Rattle.frame.specs.Lanes.{anyBelow}
 use Rattle.post.specs.declared.Post.{Post}

@@ -1,5 +1,5 @@
 // The yard program: a script from standard input, its printout to standard output. Whatever fails is told on standard
-// error, with nothing on standard output before it.
+// error. A read that fails prints nothing.
 use libc::STDIN_FILENO;
 use libc::STDOUT_FILENO;
 

@@ -7,6 +7,7 @@ use Rattle.lines.specs.declared.Line.{Line}
 use Rattle.lines.specs.declared.Line.the-variants.{Yard, Order, Hear, Beacon, Roll, Refused}
 use Rattle.lines.specs.Lines.{lineAt, numberOf}
 use Rattle.roll.specs.Runs.{run}
+use Rattle.yard.specs.Yards.{yardRefusal}
 use Rattle.yard.specs.Worlds.{World}
 use Rattle.meaning.specs.Script.{worldAfter, freshWorld, stepLines, scriptWorld}
 use Rattle.agreement.specs.Demand3 as demand
@@ -22,6 +23,7 @@ module _ (s air : List ℕ) where
   FromYard =
       (posts : ℕ) × (sources : ℕ) × (dests : ℕ) × (next : ℕ)
       × (lineAt s 0 ≡ Yard posts sources dests next)
+      × (yardRefusal posts sources dests ≡ 0)
       × (scriptWorld s air ≡ run (demand.freshWorld posts sources dests air) (stepsOf (stepLines s)))
       × demand.Demand3 posts sources dests (demand.freshWorld posts sources dests air)
 
@@ -29,6 +31,7 @@ module _ (s air : List ℕ) where
   unfolding FromYard scriptWorld
   from-yard posts sources dests next e =
       let r = accepted s 0 (Yard posts sources dests next) e refl .0 in
+      let good = yard-accepted posts sources dests (r .1) (r .5) (r .6) in
       let made : freshWorld s air ≡ demand.freshWorld posts sources dests air =
       rw (e, yard-made posts sources dests (r .1) (r .5) (r .6)) refl in
       let ran : worldAfter (freshWorld s air) (stepLines s) ≡ run (demand.freshWorld posts sources dests air) (stepsOf (stepLines s)) =
@@ -38,8 +41,9 @@ module _ (s air : List ℕ) where
         dests,
         next,
         e,
+        good,
         ran,
-        agreement posts sources dests air (r .2) (r .3) (r .4) (yard-accepted posts sources dests (r .1) (r .5) (r .6)),
+        agreement posts sources dests air (r .2) (r .3) (r .4) good,
       )
 
   -- no other line can be the first

@@ -5,6 +5,7 @@ use mathlib.Core.List.{List, [], _∷_, _++_}
 use Rattle.lines.specs.declared.Line.{Line}
 use Rattle.lines.specs.declared.Line.the-variants.{Yard}
 use Rattle.lines.specs.Lines.{lineAt, judged}
+use Rattle.yard.specs.Yards.{yardRefusal}
 use Rattle.roll.specs.Runs.{Step, run}
 use Rattle.agreement.specs.Demand3.{Demand3, freshWorld}
 use Rattle.meaning.specs.Script.{stepOf, stepLines, scriptWorld}
@@ -14,10 +15,12 @@ unfoldable pub stepsOf : List Line → List Step
 stepsOf [] = []
 stepsOf (l ∷ ls) = stepOf l ++ stepsOf ls
 
--- a script that is not refused runs its steps on the fresh yard of its first line, and demand 3 holds of that yard
+-- the yard of an accepted script's first line is not refused, the script runs its steps on that yard, made fresh, and
+-- demand 3 holds of it
 abbrev pub Printed : Type 0
 Printed = (s air : List ℕ) → judged s .number ≡ 0 →
     (posts : ℕ) × (sources : ℕ) × (dests : ℕ) × (next : ℕ)
     × (lineAt s 0 ≡ Yard posts sources dests next)
+    × (yardRefusal posts sources dests ≡ 0)
     × (scriptWorld s air ≡ run (freshWorld posts sources dests air) (stepsOf (stepLines s)))
     × Demand3 posts sources dests (freshWorld posts sources dests air)

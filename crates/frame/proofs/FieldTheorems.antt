@@ -15,7 +15,7 @@ use Rattle.frame.specs.ReadWrite.{readOf, written}
 use Rattle.frame.specs.Fields.{ByteFields, fieldsOf, fieldAt, entryFrom, entriesFrom, frameFrom, badCount, fieldsReadRefusal, fieldsRead, fieldsWriteRefusal, fieldsWritten}
 use Rattle.frame.specs.declared.Entry.{Entry}
 use Rattle.frame.specs.declared.Frame.{Frame}
-use Rattle.frame.proofs.Accepted.{Below255, below-255}
+use Rattle.frame.proofs.Accepted.{below-255}
 use Rattle.frame.proofs.FieldLaws.{fields-read-accepted, fields-write-judged}
 use Rattle.frame.proofs.Laws.{passed, writable, written-good}
 use Rattle.frame.proofs.RoundTrip.{tabulate, tabulated, frame-bytes}

@@ -4,9 +4,7 @@ use crate::Frame;
 use crate::Serial;
 use crate::Stamp;
 ghost use mathlib.Core.Path.{_≡_};
-ghost use mathlib.Core.Bool.{cond};
 ghost use Prim.Native.Nat.{_+_, _<_};
-ghost use lib.Dec.{ltb};
 ghost use lib.ListN.{length};
 ghost use Rattle.frame.specs.Fields.{fieldsOf, byteFieldAt, entryFrom, entriesFrom, frameFrom};
 

@@ -11,6 +11,7 @@ ghost use Rattle.frame.specs.ReadWrite.{noFrame, refusedRead, readOf, wr
 ghost use Rattle.frame.specs.Fields.{fieldsReadRefusal, fieldsRead, fieldsWriteRefusal, fieldsWritten};
 
 // A count of one lane's own orders (a per-source sequence number), 1 to 16; entries also have 0.
+#[repr(C)]
 pub struct Serial(pub u8);
 
 impl Serial {
@@ -18,6 +19,7 @@ impl Serial {
 }
 
 // A reading of a source's logical clock (a Lamport timestamp); 0 means none.
+#[repr(C)]
 pub struct Stamp(pub u16);
 
 // A lane's newest stamp and the serial that it stands under, as a broadcast carries them; all zero is none.
@@ -116,8 +118,8 @@ impl Frame {
             self.kind,
             self.sender,
             self.lane,
-            self.serial.0,
-            self.stamp.0,
+            self.serial,
+            self.stamp,
             self.word,
         );
         if number != 0 {
@@ -139,9 +141,9 @@ pub extern "C" fn drift_frame_check(bytes: &[u8]) -> u8
         return 6;
     }
     let kind = bytes[0];
-    let stamp = layout::pair_at(bytes, 4);
+    let stamp = Stamp(layout::pair_at(bytes, 4));
     let word = layout::pair_at(bytes, 6);
-    let start = refusals::of_start(kind, bytes[1], bytes[2], bytes[3], stamp, word);
+    let start = refusals::of_start(kind, bytes[1], bytes[2], Serial(bytes[3]), stamp, word);
     if start != 0 {
         return start;
     }

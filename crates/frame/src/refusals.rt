@@ -2,6 +2,7 @@
 use crate::Entry;
 use crate::Frame;
 use crate::Serial;
+use crate::Stamp;
 use crate::layout;
 ghost use mathlib.Core.Path.{_≡_};
 ghost use lib.ListN.{length};
@@ -9,17 +10,24 @@ ghost use Rattle.frame.specs.Layout.{startOf, frameOf};
 ghost use Rattle.frame.specs.Refusals.{badEntry, badEntries, startRefusal};
 
 // The lowest of 7 to 10 that the fields before the entries meet, or 0.
-pub(crate) fn of_start(kind: u8, sender: u8, lane: u8, serial: u8, stamp: u16, word: u16) -> u8
-    ensures { λ r. ⌜ r ≡ startRefusal (startOf kind sender lane serial stamp word) ⌝ }
+pub(crate) fn of_start(
+    kind: u8,
+    sender: u8,
+    lane: u8,
+    serial: Serial,
+    stamp: Stamp,
+    word: u16,
+) -> u8
+    ensures { λ r. ⌜ r ≡ startRefusal (startOf kind sender lane (serial .0) (stamp .0) word) ⌝ }
 {
     if (kind != Frame::ORDER) & (kind != Frame::BEACON) {
         return 7;
     }
-    if (kind == Frame::BEACON) & ((lane != 0) | (serial != 0) | (stamp != 0) | (word != 0)) {
+    if (kind == Frame::BEACON) & ((lane != 0) | (serial.0 != 0) | (stamp.0 != 0) | (word != 0)) {
         return 8;
     }
     if (kind == Frame::ORDER)
-        & ((lane > Frame::LAST_LANE) | (serial == 0) | (serial > Serial::LAST) | (stamp == 0))
+        & ((lane > Frame::LAST_LANE) | (serial.0 == 0) | (serial.0 > Serial::LAST) | (stamp.0 == 0))
     {
         return 9;
     }

@@ -128,9 +128,9 @@ fn bad_unused(log: &[u8; 128], n: u8) -> bool
     ensures { λ r. ⌜ r ≡ anyBelow (λ (k : ℕ). badUnusedIn (now (log .entry)) (n + k)) (128 - n) ⌝ }
 {
     let mut bad = false;
-    let mut k = n;
+    let mut k = n as usize;
     while k < 128 {
-        bad = bad | !(cells::byte_at(log, k as usize) == 0);
+        bad = bad | !(cells::byte_at(log, k) == 0);
         k = k + 1;
     }
     bad

@@ -1,10 +1,10 @@
 -- The ways through `pass_on` and `finish`, and what they leave together. Assumes nothing.
 use mathlib.Core.Path.{_≡_, refl}
-use mathlib.Core.Bool.{Bool, true, false, cond, not}
+use mathlib.Core.Bool.{Bool, true, false, cond}
 use mathlib.Core.List.{List}
-use Prim.Native.Nat.{ℕ, _<_}
+use Prim.Native.Nat.{ℕ}
 use lib.Dec.{ltb, eqb}
-use borrow.Author.Tests.{eq-eqb, ne-eqb}
+use borrow.Author.Tests.{ne-eqb}
 use Rattle.frame.specs.Refusals.{frameRefusal}
 use Rattle.frame.specs.declared.Frame.{Frame}
 use Rattle.air.specs.Air.{placeRefusal, airWith}

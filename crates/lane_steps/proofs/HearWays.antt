@@ -1,11 +1,10 @@
 -- The ways through `hear`. Assumes nothing.
-use mathlib.Core.Path.{_≡_, refl, sym, ap, _∙_}
+use mathlib.Core.Path.{_≡_, refl, ap}
 use mathlib.Core.Bool.{Bool, true, false, cond}
 use mathlib.Core.List.{List}
 use Prim.Native.Nat.{ℕ}
 use lib.Dec.{eqb}
 use borrow.Author.Tests.{ne-eqb}
-use Rattle.frame.specs.declared.Frame.{Frame}
 use Rattle.frame.specs.declared.FrameRead.{FrameRead}
 use Rattle.frame.specs.ReadWrite.{readOf}
 use Rattle.air.specs.Air.{stretchOf, airWith}
@@ -15,24 +14,18 @@ use Rattle.steps.specs.Steps.{hearStep}
 use Rattle.steps.specs.InPlace.{hearTook}
 use Rattle.steps.proofs.InPlaceLaws.{hear-number}
 use Rattle.yard.specs.declared.PostHeard.{PostHeard}
-use Rattle.yard.specs.Singles.{framesAfter, frameAt, postHears, postHearsAir}
-use Rattle.yard.specs.Parts.{absentRefusal}
+use Rattle.yard.specs.Singles.{framesAfter, absentRefusal, frameAt, postHears, postHearsAir}
 use Rattle.yard.proofs.HearWays.{hear-judged, post-hear-refused, post-hear-runs}
 use Rattle.lane_steps.specs.InPlace.{Left, finished, hearStopped, heardIn, frameHeardIn}
 
 -- bytes that are no frame
-pub hear-stopped : (known air : List ℕ) (p : Post) (frames k m n : ℕ) (got : FrameRead) → got ≡ readOf (stretchOf air frames k)
+hear-stopped : (known air : List ℕ) (p : Post) (frames k m n : ℕ) (got : FrameRead) → got ≡ readOf (stretchOf air frames k)
     → m ≡ absentRefusal air (p .lane) (p .posts) frames k → n ≡ cond (eqb m 0) (got .refusal) m → (n ≡ 0 → ⊥)
     → _≡_ {A = Left} (record { number = n; post = p; known = known; frames = frames; air = air }) (heardIn known air p frames k)
 unfolding heardIn
 hear-stopped known air p frames k m n got eg em en h =
     let s = post-hear-refused air p frames k m n got eg em en h in
     rw (← s .0, ← s .1, ne-eqb n 0 h)
-
-pub hear-no-frame : (known air : List ℕ) (p : Post) (frames k m : ℕ) (got : FrameRead) → got ≡ readOf (stretchOf air frames k)
-    → m ≡ absentRefusal air (p .lane) (p .posts) frames k → m ≡ 0 → (got .refusal ≡ 0 → ⊥)
-    → _≡_ {A = Left} (record { number = got .refusal; post = p; known = known; frames = frames; air = air }) (heardIn known air p frames k)
-hear-no-frame known air p frames k m got eg em z h = hear-stopped known air p frames k m (got .refusal) got eg em (rw z) h
 
 -- no air, or no such frame
 pub hear-absent : (known air : List ℕ) (p : Post) (frames k m : ℕ) → m ≡ absentRefusal air (p .lane) (p .posts) frames k → (m ≡ 0 → ⊥)

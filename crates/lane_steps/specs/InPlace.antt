@@ -38,10 +38,11 @@ finished known air t f q frames = record {
   air = airWith air frames f;
 }
 
--- an order of the post
+-- the number of an order's answer: 0, or what stops it
 abbrev pub orderStopped : List ℕ → Post → ℕ → ℕ → ℕ
 orderStopped air p frames word = orderNumber (postOrders air p frames word .answer)
 
+-- an order of the post
 unfoldable pub orderedIn : List ℕ → List ℕ → Post → ℕ → ℕ → Left
 orderedIn known air p frames word = record {
   number = orderStopped air p frames word;
@@ -51,10 +52,11 @@ orderedIn known air p frames word = record {
   air = postOrdersAir air p frames word;
 }
 
--- a hearing of the post
+-- the number of a hearing's answer: 0, or what stops it
 abbrev pub hearStopped : List ℕ → Post → ℕ → ℕ → ℕ
 hearStopped air p frames k = hearNumber (postHears air p frames k .answer)
 
+-- a hearing of the post
 unfoldable pub heardIn : List ℕ → List ℕ → Post → ℕ → ℕ → Left
 heardIn known air p frames k = record {
   number = hearStopped air p frames k;

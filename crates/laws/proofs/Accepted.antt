@@ -1,17 +1,17 @@
 -- What a frame has that is not refused, field by field. Assumes nothing.
-use mathlib.Core.Path.{_≡_, refl, ap}
+use mathlib.Core.Path.{_≡_, ap}
 use mathlib.Core.Logic.{_⊎_, inl, inr}
 use mathlib.Core.Bool.{Bool, true, false, cond, not, _&&_, _||_}
 use Prim.Native.Nat.{ℕ, _<_, _≤_}
 use native.Mathlib.Omega.{arith}
 use lib.Dec.{ltb, eqb}
-use borrow.Author.Tests.{ltb-false, le-ltb, eqb-true, eq-eqb, ne-eqb, not-false}
+use borrow.Author.Tests.{ltb-false, eqb-true, eq-eqb, not-false}
 use Rattle.frame.specs.Layout.{entryOf}
 use Rattle.frame.specs.Refusals.{badKind, badBeacon, badOrder, badSender, badEntry, badEntries, frameRefusal}
 use Rattle.frame.specs.declared.Entry.{Entry}
 use Rattle.frame.specs.declared.Frame.{Frame}
 use Rattle.frame.proofs.Laws.{passed}
-use Rattle.laws.proofs.TestLaws.{true-or-false, zero-of, above-zero, and-second, and-fails, or-parts, or-made, none-each, each-none, goes-on}
+use Rattle.laws.proofs.TestLaws.{true-or-false, zero-of, above-zero, and-second, or-parts, none-each}
 
 -- the order that a frame carries
 pub record GoodOrder (f : Frame) : Type 0 where
@@ -91,59 +91,3 @@ accepted f z =
       serials = λ i l. entry-good (entryOf f i) (each i l) .0;
       none = λ i l. entry-good (entryOf f i) (each i l) .1;
     }
-
--- ---- and the other way round
-
--- kind 1 or 2 is not turned down by 7
-kind-made : (k : ℕ) → (k ≡ 1) ⊎ (k ≡ 2) → (not (eqb k 1) && not (eqb k 2)) ≡ false
-kind-made k (inl e) = rw e
-kind-made k (inr e) = rw e
-
--- a test for another number than 0 fails at 0
-zero-made : (n : ℕ) → n ≡ 0 → not (eqb n 0) ≡ false
-zero-made n e = ap not (eq-eqb n 0 e)
-
--- a beacon frame with zeros is not turned down by 8
-beacon-made : (f : Frame) → (f .kind ≡ 2 → (f .lane ≡ 0) × (f .serial .0 ≡ 0) × (f .stamp .0 ≡ 0) × (f .word ≡ 0)) → badBeacon f ≡ false
-beacon-made f h =
-    and-fails (eqb (f .kind) 2) (not (eqb (f .lane) 0) || not (eqb (f .serial .0) 0) || not (eqb (f .stamp .0) 0) || not (eqb (f .word) 0))
-    (λ t.
-    let z = h (eqb-true (f .kind) 2 t) in
-    or-made (not (eqb (f .lane) 0) || not (eqb (f .serial .0) 0) || not (eqb (f .stamp .0) 0)) (not (eqb (f .word) 0))
-    (or-made (not (eqb (f .lane) 0) || not (eqb (f .serial .0) 0)) (not (eqb (f .stamp .0) 0))
-    (or-made (not (eqb (f .lane) 0)) (not (eqb (f .serial .0) 0)) (zero-made (f .lane) (z .0)) (zero-made (f .serial .0) (z .1)))
-    (zero-made (f .stamp .0) (z .2)))
-    (zero-made (f .word) (z .3)))
-
--- an order frame in its ranges is not turned down by 9
-order-made : (f : Frame) → (f .kind ≡ 1 → GoodOrder f) → badOrder f ≡ false
-order-made f h =
-    and-fails (eqb (f .kind) 1) (ltb 7 (f .lane) || eqb (f .serial .0) 0 || ltb 16 (f .serial .0) || eqb (f .stamp .0) 0)
-    (λ t.
-    let g = h (eqb-true (f .kind) 1 t) in
-    or-made (ltb 7 (f .lane) || eqb (f .serial .0) 0 || ltb 16 (f .serial .0)) (eqb (f .stamp .0) 0)
-    (or-made (ltb 7 (f .lane) || eqb (f .serial .0) 0) (ltb 16 (f .serial .0))
-    (or-made (ltb 7 (f .lane)) (eqb (f .serial .0) 0)
-    (le-ltb 7 (f .lane) (omega (arith, g .lane)))
-    (ne-eqb (f .serial .0) 0 (λ e. omega (arith, g .some))))
-    (le-ltb 16 (f .serial .0) (g .serial)))
-    (ne-eqb (f .stamp .0) 0 (λ e. omega (arith, g .stamp))))
-
--- an entry with a serial up to 16, and serial 0 where it has no stamp, is not turned down by 11
-entry-made : (e : Entry) → e .serial .0 ≤ 16 → (e .stamp .0 ≡ 0 → e .serial .0 ≡ 0) → badEntry e ≡ false
-entry-made e h k =
-    or-made (ltb 16 (e .serial .0)) (eqb (e .stamp .0) 0 && not (eqb (e .serial .0) 0))
-    (le-ltb 16 (e .serial .0) h)
-    (and-fails (eqb (e .stamp .0) 0) (not (eqb (e .serial .0) 0)) (λ t. zero-made (e .serial .0) (k (eqb-true (e .stamp .0) 0 t))))
-
--- a frame that each rule accepts is not refused
-pub not-refused : (f : Frame) → Accepted f → frameRefusal f ≡ 0
-unfolding frameRefusal badEntries
-not-refused f a =
-    goes-on (badKind f) 7 _ (kind-made (f .kind) (a .kind))
-    (goes-on (badBeacon f) 8 _ (beacon-made f (a .beacon))
-    (goes-on (badOrder f) 9 _ (order-made f (a .order))
-    (goes-on (badSender f) 10 _ (le-ltb 7 (f .sender) (omega (arith, a .sender)))
-    (goes-on (badEntries f) 11 0
-    (each-none (λ (lane : ℕ). badEntry (entryOf f lane)) 8 (λ i l. entry-made (entryOf f i) (a .serials i l) (a .none i l)))
-    refl))))

@@ -13,7 +13,7 @@ use Rattle.cells.specs.Tables.{orderPlace}
 use Rattle.post.specs.declared.Post.{Post}
 use Rattle.post.specs.Record.{isPost, isSource, lastOf}
 use Rattle.deliver.specs.Delivery.{stampAt}
-use Rattle.steps.specs.Refusals.{notInYard, noSource, allSent, clockSpent, orderRefusalBy, orderRefusal, isOrder, isNext, clockPasses, ownBroadcast, hasStamp, strangeEntries, strange, notAbove, beyondOwn, hearRefusalBy, hearRefusal}
+use Rattle.steps.specs.Refusals.{notInYard, orderRefusal, isOrder, isNext, clockPasses, ownBroadcast, hasStamp, strangeEntries, strange, notAbove, beyondOwn, hearRefusalBy, hearRefusal}
 use Rattle.steps.proofs.Passed.{order-passed, hear-passed}
 use Rattle.laws.proofs.TestLaws.{and-parts, and-made, and-second, and-fails, or-parts, or-made, none-each, each-none, goes-on}
 
@@ -36,15 +36,6 @@ orderable p z =
       serial = leb-false 16 (p .serial .0) (a .2);
       clock = leb-false 65535 (p .clock .0) (a .3);
     }
-
--- and the other way round
-pub order-not-refused : (p : Post) → Orderable p → orderRefusal p ≡ 0
-unfolding orderRefusalBy
-order-not-refused p o =
-    goes-on (notInYard (p .posts) (p .lane)) 21 _ (ap not (o .here))
-    (goes-on (noSource (p .sources) (p .lane)) 22 _ (ap not (o .source))
-    (goes-on (allSent (p .serial .0)) 23 _ (lt-leb 16 (p .serial .0) (o .serial))
-    (goes-on (clockSpent (p .clock .0)) 24 0 (lt-leb 65535 (p .clock .0) (o .clock)) refl)))
 
 -- ---- a hearing
 

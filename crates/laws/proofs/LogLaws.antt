@@ -3,7 +3,7 @@ use mathlib.Core.Path.{_≡_, refl, sym, ap, _∙_}
 use mathlib.Core.List.{List, _∷_, _++_}
 use mathlib.Core.Logic.{_⊎_, inl, inr, _≢_}
 use mathlib.Core.Bool.{Bool, true, false, cond, not, _&&_, _||_}
-use Prim.Native.Nat.{ℕ, zero, suc, _+_, _/_, _%_, _<_, _≤_, min}
+use Prim.Native.Nat.{ℕ, zero, suc, _+_, _%_, _<_, _≤_, min}
 use native.Mathlib.Omega.{arith}
 use lib.Dec.{leb, eqb}
 use lib.ListN.{length, getD, take, drop, length-append}
@@ -89,10 +89,6 @@ due-is p place d =
 -- a key tells the place
 pub key-place : (stamp place : ℕ) → place < 128 → keyOf stamp place % 128 ≡ place
 key-place stamp place h = omega arith
-
--- and the stamp
-pub key-stamp : (stamp place : ℕ) → place < 128 → keyOf stamp place / 128 ≡ stamp
-key-stamp stamp place h = omega arith
 
 -- the keys are those of the due orders
 pub due-key : (p : Post) (n key : ℕ) → Mem key (dueBelow p n) → (place : ℕ) × (place < n) × (isDue p place ≡ true) × (key ≡ keyAt p place)

@@ -14,7 +14,7 @@ use Rattle.steps.specs.Refusals.{orderRefusal, hearRefusal}
 use Rattle.steps.specs.Steps.{orderStep, hearStep}
 use Rattle.judge.specs.Judgement.{badRecord}
 use Rattle.laws.proofs.TestLaws.{same-or-not}
-use Rattle.laws.proofs.ListLaws.{Mem, NoRepeat, Begins, begins-itself}
+use Rattle.laws.proofs.ListLaws.{Mem, NoRepeat, Begins}
 use Rattle.laws.proofs.LogLaws.{logOf}
 use Rattle.laws.proofs.Valid.{Shaped, Valid, judged-valid, valid-judged}
 use Rattle.laws.proofs.ValidLog.{joining, log-once, log-taken, delivered-log, delivered-shaped, delivered-valid}
@@ -107,19 +107,3 @@ hear-log p f a t z s v =
     (heard-valid p f a z s v)
     (hear-shaped p f a t s v)
     (hear-valid p f a t s v)
-
--- refused or not, the old log begins the new one
-pub order-begins : (p : Post) (word : ℕ) → word < 65536 → Shaped p → Valid p → Begins (logOf p) (logOf (orderStep p word .post))
-order-begins p word b s v = go (same-or-not (orderRefusal p) 0)
-  where
-    go : (orderRefusal p ≡ 0) ⊎ (orderRefusal p ≢ 0) → Begins (logOf p) (logOf (orderStep p word .post))
-    go (inl z) = order-log p word b z s v .begins
-    go (inr n) = rw (order-refused p word n) (begins-itself (logOf p))
-
--- so for a hearing
-pub hear-begins : (p : Post) (f : Frame) → frameRefusal f ≡ 0 → Fits f → Shaped p → Valid p → Begins (logOf p) (logOf (hearStep p f .post))
-hear-begins p f a t s v = go (same-or-not (hearRefusal p f) 0)
-  where
-    go : (hearRefusal p f ≡ 0) ⊎ (hearRefusal p f ≢ 0) → Begins (logOf p) (logOf (hearStep p f .post))
-    go (inl z) = hear-log p f a t z s v .begins
-    go (inr n) = rw (hear-refused p f n) (begins-itself (logOf p))

@@ -10,11 +10,11 @@ use lib.Seq.{length-take-le, getD-take}
 use Rattle.post.specs.declared.Post.{Post}
 use Rattle.post.specs.Record.{isDest, withLog}
 use Rattle.deliver.specs.Delivery.{isTaken, isLogged, duePlaces, dueLog, delivered}
-use Rattle.judge.specs.Judgement.{loggedAt, badRecord}
+use Rattle.judge.specs.Judgement.{loggedAt}
 use Rattle.laws.proofs.TestLaws.{same-or-not, true-or-false, not-both}
 use Rattle.laws.proofs.ListLaws.{Mem, NoRepeat, mem-append, mem-at, mem-which, no-repeat-append, no-repeat-at, at-no-repeat, no-longer}
 use Rattle.laws.proofs.LogLaws.{logOf, mem-logged, is-due, places-due, places-once, Joined, delivered-joins, delivered-stays}
-use Rattle.laws.proofs.Valid.{Shaped, Valid, judged-valid, valid-judged}
+use Rattle.laws.proofs.Valid.{Shaped, Valid}
 
 -- ---- the log as a list
 
@@ -202,10 +202,3 @@ delivered-valid p s v = go (true-or-false (isDest p (p .lane)))
         (λ k a b. j .past k a ∙ v .rest k (omega (arith, j .logged)) b)
         v)
     go (inr d) = rw (delivered-stays p d) v
-
--- delivery keeps a record that refusal 12 does not turn down
-pub delivered-judged : (p : Post) → Shaped p → badRecord p ≡ false
-    → Shaped (delivered p .post) × (badRecord (delivered p .post) ≡ false)
-delivered-judged p s e =
-    let v = judged-valid p e in
-    (delivered-shaped p s v, valid-judged (delivered p .post) (delivered-valid p s v))

@@ -19,14 +19,10 @@ pub both : (a b : Bool) → (a && b) ≡ true → (a ≡ true) × (b ≡ true)
 both true b e = (refl, e)
 both false b e = never e
 
--- a byte below 48 is no digit, nor is one above 57; those between are
+-- a byte below 48 is no digit; those from 48 to 57 are
 pub digit-low : (s : List ℕ) (at x : ℕ) → x ≡ getD s at 0 → x < 48 → 10 ≡ digitAt s at
 unfolding digitAt
 digit-low s at x e h = rw (← e, lt-leb _ _ h)
-
-pub digit-high : (s : List ℕ) (at x : ℕ) → x ≡ getD s at 0 → 48 ≤ x → 57 < x → 10 ≡ digitAt s at
-unfolding digitAt
-digit-high s at x e l h = rw (← e, le-leb _ _ l, lt-leb _ _ h)
 
 pub digit-mid : (s : List ℕ) (at x : ℕ) → x ≡ getD s at 0 → 48 ≤ x → x ≤ 57 → x - 48 ≡ digitAt s at
 unfolding digitAt

@@ -1,9 +1,9 @@
 -- Single steps, refused or not, and lists of them keep a yard as it has to be. Assumes nothing.
-use mathlib.Core.Path.{_≡_, refl, _∙_}
+use mathlib.Core.Path.{_≡_, refl}
 use mathlib.Core.List.{List, [], _∷_, _++_}
 use mathlib.Core.Logic.{_≢_}
 use mathlib.Core.Bool.{Bool, true, false, cond, not}
-use Prim.Native.Nat.{ℕ, _≤_, _<_}
+use Prim.Native.Nat.{ℕ, _<_}
 use native.Mathlib.Omega.{arith}
 use lib.Dec.{ltb, leb, eqb}
 use borrow.Author.Tests.{eqb-true, eqb-false, ne-eqb, leb-false, lt-leb, ltb-false, le-ltb, not-false}
@@ -142,13 +142,6 @@ module _ (R : Roles) (ro : RolesOk R) where
   run-log Y (s ∷ l) y p = let n = step-ok Y s y in
       begins-on (Y .posts p .log) (step R Y s .posts p .log) (run R (step R Y s) l .posts p .log)
       (n .logsBegin p) (run-log (step R Y s) l (n .nextOk) p)
-
-  -- the first frames of the orders that there were stay their first frames
-  pub run-first : (Y : Yard) (l : List Single) → YardOk R Y → (i n : ℕ) → 0 < n → n ≤ Y .posts i .own → run R Y l .first i n ≡ Y .first i n
-  unfolding run
-  run-first Y [] y i n a b = refl
-  run-first Y (s ∷ l) y i n a b = let x = step-ok Y s y in
-      run-first (step R Y s) l (x .nextOk) i n a (omega (arith, x .postsGrew .ownGrows i)) ∙ x .firstStays i n a b
 
 -- ---- lists of steps run one after another
 

@@ -1,5 +1,5 @@
 -- The newest entry of a lane is its greatest stamp with the last serial that it stands under. Assumes nothing.
-use mathlib.Core.Path.{_≡_, refl}
+use mathlib.Core.Path.{_≡_, refl, ap}
 use mathlib.Core.Bool.{Bool, true, false, cond, _&&_}
 use mathlib.Core.List.{List}
 use Prim.Native.Nat.{ℕ, zero, suc, _+_, _-_, _*_, _<_, _≤_, max}
@@ -10,9 +10,18 @@ use lib.ListN.{getD, set, replicate}
 use borrow.Author.Tests.{eqb-true, eqb-false, eq-eqb, ne-eqb, ltb-false, lt-ltb, le-ltb, leb-true, leb-false}
 use Rattle.frame.specs.Layout.{noEntry}
 use Rattle.frame.specs.declared.Entry.{Entry}
+use Rattle.frame.specs.declared.Serial.{Serial}
+use Rattle.frame.specs.declared.Stamp.{Stamp}
 use Rattle.cells.specs.Tables.{stampUnder}
 use Rattle.post.specs.Newest.{newer, newestBelow, newest, newestEntries}
 use Rattle.post.specs.Loops.{greatestBelow, lastBelow, entriesBelow}
+
+-- a stamp and a serial are their numbers
+pub stamp-is : (s : Stamp) (n : ℕ) → s .0 ≡ n → s ≡ record { 0 = n }
+stamp-is s n p = ap (λ m. record { 0 = m }) p
+
+pub serial-is : (s : Serial) (n : ℕ) → s .0 ≡ n → s ≡ record { 0 = n }
+serial-is s n p = ap (λ m. record { 0 = m }) p
 
 -- the first stamp, and one stamp more
 pub greatest-one : (table : List ℕ) (first : ℕ) → getD table first 0 ≡ greatestBelow table first 1
@@ -43,6 +52,9 @@ serial-if-is x g s a r h p q d e = go (eqb x g) refl where
   go : (t : Bool) → eqb x g ≡ t → r ≡ cond (eqb x g) s 0
   go true f = let i : x ≡ g = eqb-true x g f in rw f (omega arith)
   go false f = let z : a ≡ 0 = omega (arith, eqb-false x g f) in rw f (omega arith)
+
+pub serial-if-bound : (x g s a r : ℕ) → x ≤ g → 0 < g → s ≤ 16 → a ≡ x - (g - 1) → r ≡ a * 32 - (32 - s) → r ≤ 16
+serial-if-bound x g s a r h p q d e = omega arith
 
 pub last-one : (table : List ℕ) (first m : ℕ) → _≡_ {A = ℕ} 0 (lastBelow table first m 1)
 unfolding lastBelow

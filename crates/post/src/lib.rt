@@ -1,5 +1,5 @@
 // One post by value: its record, and the parts of a step that work on one of its arrays.
-// The contracts cite specs/Record.antt, specs/Newest.antt and specs/Taking.antt, those of private functions specs/Loops.antt.
+// The contracts cite specs/Record.antt and specs/Newest.antt, those of private functions specs/Loops.antt.
 use frame::Entry;
 use frame::Frame;
 use frame::Serial;
@@ -16,7 +16,8 @@ ghost use Rattle.post.specs.Loops.{greatestBelow, lastBelow};
 
 // A post: its lane, the yard's posts and roles as sets of eight bits, its logical clock and own serial; for each lane
 // the last serial taken; the newest-stamp table, 8 lanes by 17 serials; the orders taken, stamp and word at place
-// 16 × lane + serial − 1; the log, as places, and its length.
+// 16 × lane + serial − 1; the log, as places, and its length. Hosts lend it: laid out as in C, 928 bytes without a gap.
+#[repr(C)]
 pub struct Post {
     pub lane: u8,
     pub posts: u8,
@@ -24,12 +25,12 @@ pub struct Post {
     pub dests: u8,
     pub clock: Stamp,
     pub serial: Serial,
+    pub logged: u8,
     pub last: [u8; 8],
     pub table: [u16; 136],
     pub stamps: [u16; 128],
     pub words: [u16; 128],
     pub log: [u8; 128],
-    pub logged: u8,
 }
 
 // A post without its arrays: what a step in place is handed, beside the arrays that are lent to it.
@@ -63,12 +64,12 @@ impl Post {
             dests: dests,
             clock: Stamp(0),
             serial: Serial(0),
+            logged: 0,
             last: [0; 8],
             table: [0; 136],
             stamps: [0; 128],
             words: [0; 128],
             log: [0; 128],
-            logged: 0,
         }
     }
 }
@@ -120,54 +121,60 @@ fn newest_of(table: &[u16; 136], lane: u8) -> Entry
 {
     let first = (lane as usize) * 17;
     let stamp = greatest(table, first);
-    if stamp == 0 {
+    if stamp.0 == 0 {
         none()
     } else {
         Entry {
-            serial: Serial(last_under(table, first, stamp) as u8),
-            stamp: Stamp(stamp),
+            serial: last_under(table, first, stamp),
+            stamp: stamp,
         }
     }
 }
 
 // The greatest of the 17 stamps from this place on.
-fn greatest(table: &[u16], first: usize) -> u16
+fn greatest(table: &[u16], first: usize) -> Stamp
     requires { do ⌜ first + 17 ≤ (← ⟦table.len()⟧) ⌝ }
-    ensures { λ r. ⌜ r ≡ greatestBelow (now (table .entry)) first 17 ⌝ }
+    ensures { λ r. ⌜ r ≡ record { 0 = greatestBelow (now (table .entry)) first 17 } ⌝ }
 {
-    let mut stamp = table[first];
+    let mut stamp = Stamp(table[first]);
     for serial in 1..Post::SERIALS {
-        stamp = larger(stamp, table[first + (serial as usize)]);
+        stamp = cells::later(stamp, Stamp(table[first + (serial as usize)]));
     }
     stamp
 }
 
 // The last serial that the greatest stamp stands under.
-fn last_under(table: &[u16], first: usize, stamp: u16) -> u16
-    requires { do ⌜ (first + 17 ≤ (← ⟦table.len()⟧)) × (0 < stamp) × (greatestBelow (now table) first 17 ≡ stamp) ⌝ }
-    ensures { λ r. ⌜ r ≡ lastBelow (now (table .entry)) first stamp 17 ⌝ }
+fn last_under(table: &[u16], first: usize, stamp: Stamp) -> Serial
+    requires { do ⌜ (first + 17 ≤ (← ⟦table.len()⟧)) × (0 < stamp .0) × (greatestBelow (now table) first 17 ≡ stamp .0) ⌝ }
+    ensures { λ r. ⌜ r ≡ record { 0 = lastBelow (now (table .entry)) first (stamp .0) 17 } ⌝ }
 {
-    let mut last = 0u16;
+    let mut last = Serial(0);
     for serial in 1..Post::SERIALS {
-        let found = serial_if(table[first + (serial as usize)], stamp, serial);
-        last = larger(last, found);
+        let found = serial_if(
+            Stamp(table[first + (serial as usize)]),
+            stamp,
+            Serial(serial),
+        );
+        last = higher(last, found);
     }
     last
 }
 
 // The serial if the stamp is the greatest, or else 0. By differences and not by a test: so written, the compiler does
 // eight serials at once.
-fn serial_if(stamp: u16, greatest: u16, serial: u8) -> u16
-    requires { ⌜ (stamp ≤ greatest) × (0 < greatest) × (serial ≤ 16) ⌝ }
-    ensures { λ r. ⌜ r ≡ cond (eqb stamp greatest) «serial» 0 ⌝ }
+fn serial_if(stamp: Stamp, greatest: Stamp, serial: Serial) -> Serial
+    requires { ⌜ (stamp .0 ≤ greatest .0) × (0 < greatest .0) × (serial .0 ≤ 16) ⌝ }
+    ensures { λ r. ⌜ r ≡ record { 0 = cond (eqb (stamp .0) (greatest .0)) (serial .0) 0 } ⌝ }
 {
-    less(less(stamp, greatest - 1) * 32, 32 - (serial as u16))
+    let found = less(less(stamp.0, greatest.0 - 1) * 32, 32 - (serial.0 as u16));
+    Serial(found as u8)
 }
 
-fn larger(a: u16, b: u16) -> u16
-    ensures { λ r. ⌜ r ≡ max a b ⌝ }
+// The higher of two serials.
+fn higher(a: Serial, b: Serial) -> Serial
+    ensures { λ r. ⌜ r ≡ record { 0 = max (a .0) (b .0) } ⌝ }
 {
-    if a < b { b } else { a }
+    if a.0 < b.0 { b } else { a }
 }
 
 // The difference, and 0 where there is none.

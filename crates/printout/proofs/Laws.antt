@@ -11,14 +11,11 @@ use lib.ListN.{length, take, getD}
 use lib.Seq.{take-suc, take-all}
 use Rattle.text.specs.Bytes.{bytes}
 use Rattle.text.specs.Decimal.{decimal}
-use Rattle.text.specs.Writing.{Out, out, wrote}
+use Rattle.text.specs.Writing.{Out, wrote}
 use Rattle.text.proofs.Laws.{next}
-use Rattle.cells.specs.Sets.{hasLane}
 use Rattle.frame.specs.declared.Stamp.{Stamp}
-use Rattle.yard.specs.declared.Yard.{Yard}
-use Rattle.yard.specs.Yards.{postAt}
 use Rattle.roll.specs.Runs.{Order}
-use Rattle.meaning.specs.Texts.{itemText, itemsText, postText, postsText}
+use Rattle.meaning.specs.Texts.{itemText, itemsText}
 use Rattle.printout.specs.Items.{itemOf, itemsOf}
 
 -- a text and a number after what is written
@@ -67,17 +64,3 @@ items-done log k n low h = go (ltb k n) refl (ltb k (length log)) refl h where
       let s : n ≤ k = ltb-false _ _ f in
       let e : k ≡ n = omega arith in
       ap (λ (i : ℕ). take i log) e
-
-module _ (o : Out) (y : Yard) (lane : ℕ) (b : Bool) (buffer buffer′ : List ℕ) (at at′ : ℕ) where
-  -- the line of a post in the yard after those below it
-  pub posts-more : (p : Out) → p ≡ wrote o (postsText y lane) → b ≡ hasLane (y .present) lane → b ≡ true
-      → out buffer at ≡ wrote p (postText lane (postAt y lane)) → buffer′ ≡ buffer → at′ ≡ at
-      → out buffer′ at′ ≡ wrote o (postsText y (lane + 1))
-  unfolding postsText
-  posts-more p e eb t f ef ea = rw (add-one, sym eb ∙ t, ef, ea) (next _ _ _ e f)
-
-  -- no line for a lane that has no post
-  pub posts-none : out buffer at ≡ wrote o (postsText y lane) → b ≡ hasLane (y .present) lane → b ≡ false
-      → buffer′ ≡ buffer → at′ ≡ at → out buffer′ at′ ≡ wrote o (postsText y (lane + 1))
-  unfolding postsText
-  posts-none e eb t ef ea = rw (add-one, sym eb ∙ t, append-nil, ef, ea) e

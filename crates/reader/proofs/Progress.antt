@@ -127,6 +127,3 @@ after s at h =
 
 pub next-above : (s : List ℕ) (at : ℕ) → at < length s → at < nextOf s (lineAt s at)
 next-above s at h = after s at h .0
-
-pub next-within : (s : List ℕ) (at : ℕ) → at < length s → nextOf s (lineAt s at) ≤ length s
-next-within s at h = after s at h .1

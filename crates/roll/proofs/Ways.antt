@@ -1,9 +1,11 @@
 -- The ways through the roll call: refused with 13, refused with 27, and run. Assumes nothing.
-use mathlib.Core.Path.{_≡_}
+use mathlib.Core.Path.{_≡_, refl, sym}
+use mathlib.Core.Bool.{Bool, true, false}
 use mathlib.Core.List.{List}
 use Prim.Native.Nat.{ℕ, _+_, _-_, _≤_, _<_}
 use native.Mathlib.Nat.{add-assoc}
-use borrow.Author.Tests.{eq-eqb, ne-eqb, lt-ltb, le-ltb}
+use lib.Dec.{eqb}
+use borrow.Author.Tests.{eq-eqb, ne-eqb, eqb-true, lt-ltb, le-ltb}
 use lib.Count.{ones}
 use lib.ListN.{length, length-append}
 use Rattle.yard.specs.declared.Yard.{Yard}
@@ -11,7 +13,8 @@ use Rattle.yard.specs.Worlds.{World, singles}
 use Rattle.roll.specs.declared.RollAnswer as calling
 use Rattle.roll.specs.declared.RollCalled.{RollCalled}
 use Rattle.roll.specs.declared.YardRan.{YardRan}
-use Rattle.roll.specs.RollCall.{postsHear, beaconsSent, postsHearBeacons, rollSteps, rollRefusal, rollCall, rollCallAir}
+use Rattle.roll.specs.RollCall.{postsHear, beaconsSent, postsHearBeacons, rollSteps, rollRefusal, rollCall, rollLength, rollCallAir}
+use Rattle.roll.specs.Answers.{rollNumber, rollCount}
 use Rattle.roll.specs.Loops.{world, yardRan}
 use Rattle.roll.proofs.RunLaws.{singles-append}
 
@@ -46,6 +49,22 @@ module _ (y : Yard) (air : List ℕ) where
       × (air′ ≡ rollCallAir found)
   unfolding rollCall rollCallAir
   call-runs left r air′ good e enough er ea = let z = call-passed left good e enough in (rw (z, er), rw (z, ea))
+
+  -- the number that the call answers is the refusal's, or 0; the count is the length of the list, or 0
+  roll-answers : (rollNumber (rollCall found .answer) ≡ rollRefusal found) × (rollCount (rollCall found .answer) ≡ rollLength found)
+  unfolding rollCall rollLength
+  roll-answers = go (eqb (rollRefusal found) 0) refl
+    where
+      go : (b : Bool) → eqb (rollRefusal found) 0 ≡ b
+          → (rollNumber (rollCall found .answer) ≡ rollRefusal found) × (rollCount (rollCall found .answer) ≡ rollLength found)
+      go true e = (rw e (sym (eqb-true (rollRefusal found) 0 e)), rw e)
+      go false e = (rw e, rw e)
+
+  -- what `call` promises, by its result and the air
+  pub call-tells : (r : RollCalled) (exit : List ℕ) → (r ≡ rollCall found) × (exit ≡ rollCallAir found)
+      → (r ≡ rollCall found)
+      × ((exit ≡ rollCallAir found) × ((rollNumber (r .answer) ≡ rollRefusal found) × (rollCount (r .answer) ≡ rollLength found)))
+  call-tells r exit e = (e .0, (e .1, rw (e .0) roll-answers))
 
   -- the three parts of the list
   pub run-all : (heard sent done : YardRan) (air₁ air₂ air₃ : List ℕ)

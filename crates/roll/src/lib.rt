@@ -1,5 +1,5 @@
-// The roll call: the list of single steps of document 01, run one after another. The contract of `call` cites specs/RollCall.antt;
-// those of its loops cite specs/Loops.antt besides.
+// The roll call: the list of single steps of document 01, run one after another. The contract of `call` cites specs/RollCall.antt
+// and specs/Answers.antt; those of its loops cite specs/Loops.antt besides.
 use frame::Serial;
 use post::Post;
 use yard::Yard;
@@ -8,7 +8,8 @@ ghost use Prim.Native.Nat.{_-_, _≤_};
 ghost use lib.ListN.{getD};
 ghost use Rattle.cells.specs.Tables.{orderPlace};
 ghost use Rattle.yard.specs.Worlds.{singles};
-ghost use Rattle.roll.specs.RollCall.{postsHear, beaconsSent, postsHearBeacons, rollSteps, rollCall, rollCallAir};
+ghost use Rattle.roll.specs.RollCall.{postsHear, beaconsSent, postsHearBeacons, rollSteps, rollRefusal, rollCall, rollLength, rollCallAir};
+ghost use Rattle.roll.specs.Answers.{rollNumber, rollCount};
 ghost use Rattle.roll.specs.Loops.{postWorld, hearings, postRan, world, yardRan, serials, laneFrames, lanesFrames, beaconFrames};
 
 // How many single steps the call ran, or the refusal (13, 27).
@@ -40,6 +41,8 @@ struct YardRan {
 pub fn call(y: Yard, air: &mut [u8]) -> RollCalled
     ensures { λ r. ⌜ r ≡ rollCall (record { yard = y; air = now (air .entry) }) ⌝ }
     ensures bytes { λ _. ⌜ now (air .exit) ≡ rollCallAir (record { yard = y; air = now (air .entry) }) ⌝ }
+    ensures number { λ r. ⌜ rollNumber (r .answer) ≡ rollRefusal (record { yard = y; air = now (air .entry) }) ⌝ }
+    ensures count { λ r. ⌜ rollCount (r .answer) ≡ rollLength (record { yard = y; air = now (air .entry) }) ⌝ }
 {
     if air.len() != air::LENGTH {
         return RollCalled {

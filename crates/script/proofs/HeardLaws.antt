@@ -5,7 +5,7 @@ use mathlib.Core.List.{List, [], _∷_, _++_, map}
 use Prim.Native.Nat.{ℕ, _+_, _<_}
 use native.Mathlib.Numerals.{add-one}
 use lib.Dec.{eqb}
-use lib.ListN.{length, getD, set}
+use lib.ListN.{getD, set}
 use lib.Seq.{set-getD}
 use borrow.Author.Tests.{eq-eqb, ne-eqb}
 use Rattle.frame.specs.declared.Serial.{Serial}
@@ -15,17 +15,15 @@ use Rattle.post.specs.declared.Head.{Head}
 use Rattle.post.specs.declared.Post.{Post}
 use Rattle.post.specs.Record.{postOf}
 use Rattle.deliver.specs.Known.{Known}
-use Rattle.yard.specs.declared.Yard.{Yard}
-use Rattle.yard.specs.Yards.{noPost}
 use Rattle.yard.specs.Worlds.{hear, singles}
 use Rattle.lane_steps.specs.InPlace.{Left, heardIn}
 use Rattle.lane_steps.proofs.Roles.{heard-roles}
 use Rattle.lane_steps.proofs.SameSteps.{same-hearing}
 use Rattle.roll.specs.RollCall.{sourcesBelow}
-use Rattle.roll.specs.Loops.{PostWorld, postWorld, hearing, hearings, world, laneFrames, lanesFrames, beaconFrames}
+use Rattle.roll.specs.Loops.{hearing, hearings, world, laneFrames, lanesFrames, beaconFrames}
 use Rattle.roll.proofs.RunLaws.{hearings-append, hearings-one, hearings-in-yard}
 use Rattle.script.specs.declared.Sets.{Sets}
-use Rattle.script.specs.Rows.{Rows, rowPost, rowKnown, rowPosts, rowsYard, Good, withRow, HeardAll}
+use Rattle.script.specs.Rows.{Rows, rowPost, rowPosts, rowsYard, Good, withRow, HeardAll}
 use Rattle.script.proofs.RowLaws.{row-at}
 use Rattle.script.proofs.RowSteps.{posts-so}
 

@@ -2,16 +2,15 @@
 use mathlib.Core.Path.{_≡_, refl, sym, ap, _∙_}
 use mathlib.Core.Bool.{Bool, true, false, cond, not, _&&_}
 use mathlib.Core.List.{List}
-use Prim.Native.Nat.{ℕ, _<_}
+use Prim.Native.Nat.{ℕ}
 use native.Mathlib.Omega.{arith}
 use lib.Dec.{ltb, leb, eqb}
 use lib.ListN.{getD}
-use borrow.Author.Tests.{eq-eqb, ne-eqb, ltb-true, lt-leb}
+use borrow.Author.Tests.{ne-eqb, ltb-true, lt-leb}
 use Rattle.frame.specs.ReadWrite.{readOf, noFrame}
 use Rattle.frame.specs.declared.Frame.{Frame}
 use Rattle.frame.specs.declared.FrameRead.{FrameRead}
-use Rattle.frame.specs.Refusals.{readRefusal}
-use Rattle.air.specs.Air.{badAir, notOnAir, stretchRefusal, stretchAt, stretchOf, airWith}
+use Rattle.air.specs.Air.{badAir, notOnAir, stretchRefusal, stretchOf}
 use Rattle.cells.specs.Sets.{hasLane}
 use Rattle.post.specs.declared.Post.{Post}
 use Rattle.frame.specs.declared.Serial.{Serial}
@@ -24,8 +23,7 @@ use Rattle.deliver.specs.Known.{joinedFrom, knownAfter}
 use Rattle.steps.specs.Refusals.{notInYard, isNext, hearRefusal}
 use Rattle.steps.specs.Steps.{hearStep, hearOther}
 use Rattle.steps.specs.InPlace.{hearTook}
-use Rattle.yard.specs.Singles.{framesAfter, frameAt, postHears, postHearsAir}
-use Rattle.yard.specs.Parts.{absentRefusal}
+use Rattle.yard.specs.Singles.{absentRefusal, frameAt}
 use Rattle.lane_steps.specs.InPlace.{Left, hearStopped, heardIn, frameHeardIn, finished}
 use Rattle.lane_steps.proofs.HearWays as ways
 use Rattle.lane_steps.proofs.FinishWays.{none-sent}
@@ -37,7 +35,6 @@ module _ (known air : List ℕ) (p : Post) (frames k m : ℕ) (got : FrameRead) 
   where
     -- what is not absent is on the air
     on-air : (badAir air ≡ false) × (notOnAir frames k ≡ false)
-    unfolding absentRefusal
     on-air = go (badAir air) refl (notOnAir frames k) refl (notInYard (p .posts) (p .lane)) refl
       where
         go : (a : Bool) → badAir air ≡ a → (o : Bool) → notOnAir frames k ≡ o → (n : Bool) → notInYard (p .posts) (p .lane) ≡ n

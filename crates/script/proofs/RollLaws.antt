@@ -1,7 +1,7 @@
 -- The roll call's list of single steps on the rows of a yard, part by part. Assumes nothing.
 use mathlib.Core.Path.{_≡_, refl, sym, ap, _∙_}
 use mathlib.Core.Bool.{Bool, true, false, cond}
-use mathlib.Core.List.{List, [], _∷_, _++_, map}
+use mathlib.Core.List.{List, [], _∷_, map}
 use Prim.Native.Nat.{ℕ, zero, suc, _+_, _-_, _<_, _≤_}
 use native.Mathlib.Numerals.{add-one}
 use native.Mathlib.Omega.{arith}
@@ -13,14 +13,14 @@ use Rattle.cells.specs.Sets.{hasLane}
 use Rattle.yard.specs.declared.Yard.{Yard}
 use Rattle.yard.specs.declared.PostBeaconed.{PostBeaconed}
 use Rattle.yard.specs.Singles.{postBeacons, postBeaconsAir, yardBeacons, yardBeaconsAir}
-use Rattle.yard.specs.Worlds.{World, Single, hear, beacon, single, singles}
+use Rattle.yard.specs.Worlds.{World, hear, beacon, single, singles}
 use Rattle.roll.specs.Answers.{rollNumber}
-use Rattle.roll.specs.RollCall.{postsHear, beaconsSent, postsHearBeacons, beaconsHeard, rollSteps, rollCall, rollCallAir}
+use Rattle.roll.specs.RollCall.{postsHear, beaconsSent, postsHearBeacons, rollSteps, rollCall, rollCallAir}
 use Rattle.roll.specs.Loops.{world, yardRan, serials, lanesFrames, beaconFrames}
 use Rattle.roll.proofs.RunLaws.{singles-append, singles-one, lanes-hears, beacons-heard}
-use Rattle.roll.proofs.Ways.{call-13, call-27, call-runs, run-all}
+use Rattle.roll.proofs.Ways.{call-13, call-27, call-runs}
 use Rattle.script.specs.declared.Sets.{Sets}
-use Rattle.script.specs.Rows.{Rows, rowPost, rowPosts, rowsYard, Good}
+use Rattle.script.specs.Rows.{Rows, rowPost, rowPosts, rowsYard}
 use Rattle.script.proofs.RowLaws.{row-at}
 
 -- ---- the own serials

@@ -13,7 +13,6 @@ use Rattle.post.specs.Record.{postOf}
 use Rattle.deliver.specs.Known.{Known}
 use Rattle.steps.specs.Answers.{orderNumber, hearNumber, beaconNumber}
 use Rattle.yard.specs.declared.Yard.{Yard}
-use Rattle.yard.specs.declared.PostOrdered.{PostOrdered}
 use Rattle.yard.specs.declared.PostBeaconed.{PostBeaconed}
 use Rattle.yard.specs.Singles.{postOrders, firstAfter, yardOrders, yardOrdersAir, postHears, yardHears, yardHearsAir, postBeacons, postBeaconsAir, yardBeacons, yardBeaconsAir}
 use Rattle.lane_steps.specs.InPlace.{Left, SameRoles, orderedIn, heardIn}

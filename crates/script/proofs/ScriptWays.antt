@@ -5,7 +5,7 @@ use mathlib.Core.List.{List, [], _++_}
 use Prim.Native.Nat.{ℕ, _+_, _<_, _≤_}
 use native.Mathlib.Omega.{arith}
 use lib.Dec.{ltb, eqb}
-use lib.ListN.{length, getD, drop, replicate, getD-replicate}
+use lib.ListN.{length, drop, replicate, getD-replicate}
 use borrow.Author.Tests.{ltb-false, eqb-false, eq-eqb, ne-eqb}
 use Rattle.text.specs.Writing.{Out, out, wrote}
 use Rattle.text.proofs.Laws.{wrote-fits, next}

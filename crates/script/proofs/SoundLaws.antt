@@ -4,10 +4,10 @@ use mathlib.Core.Bool.{Bool, true, false, cond, not}
 use mathlib.Core.List.{List, [], _∷_, _++_, map}
 use Prim.Native.Nat.{ℕ, _+_, _<_, _≤_}
 use native.Mathlib.Omega.{arith}
-use lib.Dec.{ltb, leb, eqb}
-use lib.ListN.{length, getD, set, length-set}
+use lib.Dec.{leb, eqb}
+use lib.ListN.{length, length-set}
 use lib.Seq.{getD-set-same}
-use borrow.Author.Tests.{lt-ltb, le-ltb, eq-eqb, ne-eqb, eqb-true}
+use borrow.Author.Tests.{lt-ltb, le-ltb, eqb-true}
 use Rattle.frame.specs.Refusals.{badLength, badKind, badBeacon, badOrder, badSender, badEntries, frameRefusal, readRefusal}
 use Rattle.frame.specs.Layout.{frameOf}
 use Rattle.frame.specs.declared.Frame.{Frame}
@@ -16,12 +16,10 @@ use Rattle.cells.specs.Sets.{hasLane}
 use Rattle.post.specs.declared.Post.{Post}
 use Rattle.steps.specs.Answers.{hearNumber}
 use Rattle.yard.specs.declared.Yard.{Yard}
-use Rattle.yard.specs.declared.PostHeard.{PostHeard}
 use Rattle.yard.specs.Yards.{noPost, postAt}
 use Rattle.yard.specs.Singles.{stopsHearing, frameAt, postHears, postHearsAir, withPost, yardHears, yardHearsAir}
 use Rattle.yard.specs.Worlds.{World, Single, hear, single, singles}
-use Rattle.roll.specs.Runs.{Step, one, roll, answer, step, run}
-use Rattle.roll.specs.RollCall.{rollSteps}
+use Rattle.roll.specs.Runs.{Step, one, answer, step, run}
 use Rattle.roll.specs.Loops.{postWorld, hearings, world}
 use Rattle.roll.proofs.RunLaws.{hearings-in-yard}
 use Rattle.agreement.specs.YardRefusals.{hearYardRefusal}

@@ -14,7 +14,6 @@ ghost use Rattle.cells.specs.Sets.{hasLane};
 ghost use Rattle.cells.specs.Tables.{orderPlace};
 ghost use Rattle.post.specs.Record.{postOf};
 ghost use Rattle.deliver.specs.Known.{Known};
-ghost use Rattle.yard.specs.Worlds.{hear, beacon};
 ghost use Rattle.roll.specs.Loops.{laneFrames, lanesFrames, beaconFrames};
 ghost use Rattle.script.specs.Rows.{HeardAll, Stands};
 

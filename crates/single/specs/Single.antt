@@ -1,5 +1,5 @@
 -- A post run singly, as a host runs it: every input judged, the broadcast in a lent buffer. Assumes nothing.
-use Prim.Native.Nat.{ℕ}
+use Prim.Native.Nat.{ℕ, _+_}
 use mathlib.Core.Bool.{cond, _&&_}
 use mathlib.Core.List.{List}
 use lib.Dec.{eqb}
@@ -8,6 +8,8 @@ use Rattle.frame.specs.Refusals.{badLength, readRefusal}
 use Rattle.post.specs.declared.Post.{Post}
 use Rattle.post.specs.Record.{lastOf, freshPost}
 use Rattle.post.specs.Newest.{beaconFrame}
+use Rattle.post.specs.Taking.{ordered, raisedPost, taken}
+use Rattle.deliver.specs.Delivery.{delivered}
 use Rattle.judge.specs.Judgement.{badRecord}
 use Rattle.steps.specs.Refusals.{notInYard, isNext, orderRefusal, hearRefusal, beaconRefusal}
 use Rattle.steps.specs.Steps.{orderSent, hearTaken, hearStep}
@@ -43,6 +45,17 @@ orderSingly p word buffer =
     cond (eqb (orderRefusalSingly p buffer) 0) (record { answer = orderSent p word .answer; post = orderSent p word .post })
     (record { answer = orders.the-variants.Refused (orderRefusalSingly p buffer); post = p })
 
+-- "An order answers with its serial, its stamp and the count delivered": the post's next serial and clock, and how many orders
+-- then join the log; 0 where it is refused
+unfoldable pub orderSerialSingly : Post → List ℕ → ℕ
+orderSerialSingly p buffer = cond (eqb (orderRefusalSingly p buffer) 0) (p .serial .0 + 1) 0
+
+unfoldable pub orderStampSingly : Post → List ℕ → ℕ
+orderStampSingly p buffer = cond (eqb (orderRefusalSingly p buffer) 0) (p .clock .0 + 1) 0
+
+unfoldable pub orderCountSingly : Post → ℕ → List ℕ → ℕ
+orderCountSingly p word buffer = cond (eqb (orderRefusalSingly p buffer) 0) (delivered (ordered p word) .count) 0
+
 -- "A post run singly puts its broadcast into a lent 32-byte buffer"; a refusal leaves it
 unfoldable pub orderBuffer : Post → ℕ → List ℕ → List ℕ
 orderBuffer p word buffer = cond (eqb (orderRefusalSingly p buffer) 0) (bytesOf (orderSent p word .frame)) buffer
@@ -60,6 +73,14 @@ hearSingly p bytes buffer =
     let f = frameOf bytes in
     cond (eqb (hearRefusalSingly p bytes buffer) 0) (record { answer = hearStep p f .answer; post = hearStep p f .post })
     (record { answer = hearings.the-variants.Refused (hearRefusalSingly p bytes buffer); post = p })
+
+-- "each carrying the count delivered": how many orders join the log once the order is taken, or the entries alone; 0 where it is refused
+unfoldable pub hearCountSingly : Post → List ℕ → List ℕ → ℕ
+hearCountSingly p bytes buffer =
+    let f = frameOf bytes in
+    cond (eqb (hearRefusalSingly p bytes buffer) 0)
+    (cond (isNext f (lastOf p (f .lane))) (delivered (taken p f) .count) (delivered (raisedPost p f) .count))
+    0
 
 -- "with no broadcast the buffer keeps its bytes": there is one where an order is taken
 unfoldable pub hearBuffer : Post → List ℕ → List ℕ → List ℕ

@@ -6,8 +6,8 @@ use steps::BeaconAnswer;
 use steps::HearAnswer;
 use steps::OrderAnswer;
 ghost use mathlib.Core.Path.{_≡_};
-ghost use Rattle.steps.specs.Answers.{orderNumber, hearNumber, beaconNumber};
-ghost use Rattle.single.specs.Single.{freshSingly, orderRefusalSingly, orderSingly, orderBuffer, hearRefusalSingly, hearSingly, hearBuffer, beaconRefusalSingly, beaconSingly, beaconBuffer};
+ghost use Rattle.steps.specs.Answers.{orderNumber, orderSerial, orderStamp, orderCount, hearNumber, hearCount, beaconNumber};
+ghost use Rattle.single.specs.Single.{freshSingly, orderRefusalSingly, orderSingly, orderSerialSingly, orderStampSingly, orderCountSingly, orderBuffer, hearRefusalSingly, hearSingly, hearCountSingly, hearBuffer, beaconRefusalSingly, beaconSingly, beaconBuffer};
 
 // A fresh post and 0, or the refusal (12, 21) and a record of zeros.
 pub struct FreshPost {
@@ -53,6 +53,9 @@ pub fn order(p: Post, word: u16, buffer: &mut [u8]) -> Ordered
     ensures { λ r. ⌜ r ≡ orderSingly p word (now (buffer .entry)) ⌝ }
     ensures buffer { λ _. ⌜ now (buffer .exit) ≡ orderBuffer p word (now (buffer .entry)) ⌝ }
     ensures number { λ r. ⌜ orderNumber (r .answer) ≡ orderRefusalSingly p (now (buffer .entry)) ⌝ }
+    ensures serial { λ r. ⌜ orderSerial (r .answer) ≡ orderSerialSingly p (now (buffer .entry)) ⌝ }
+    ensures stamp { λ r. ⌜ orderStamp (r .answer) ≡ orderStampSingly p (now (buffer .entry)) ⌝ }
+    ensures count { λ r. ⌜ orderCount (r .answer) ≡ orderCountSingly p word (now (buffer .entry)) ⌝ }
 {
     if buffer.len() != Post::FRAME_LENGTH {
         return Ordered {
@@ -85,6 +88,7 @@ pub fn hear(p: Post, bytes: &[u8], buffer: &mut [u8]) -> Heard
     ensures { λ r. ⌜ r ≡ hearSingly p (now (bytes .entry)) (now (buffer .entry)) ⌝ }
     ensures buffer { λ _. ⌜ now (buffer .exit) ≡ hearBuffer p (now (bytes .entry)) (now (buffer .entry)) ⌝ }
     ensures number { λ r. ⌜ hearNumber (r .answer) ≡ hearRefusalSingly p (now (bytes .entry)) (now (buffer .entry)) ⌝ }
+    ensures count { λ r. ⌜ hearCount (r .answer) ≡ hearCountSingly p (now (bytes .entry)) (now (buffer .entry)) ⌝ }
 {
     if buffer.len() != Post::FRAME_LENGTH {
         return Heard {

@@ -16,7 +16,7 @@ use Rattle.yard.specs.Yards.{postAt}
 use Rattle.yard.specs.Worlds.{World}
 use Rattle.roll.specs.declared.RollAnswer as calling
 use Rattle.roll.specs.Runs.{Step, Answer, ordered, heard, beaconed, called, answer, run}
-use Rattle.meaning.specs.Script.{stepOf, worldAfter, freshWorld, stepLines, scriptWorld}
+use Rattle.meaning.specs.Script.{stepOf, freshWorld, stepLines, scriptWorld}
 
 -- ---- numbers of two bytes
 

@@ -1,5 +1,5 @@
-// The steps of one post without the judgement of its record (12), for the crates above: total, and defined for every record.
-// Hosts use the crate `single`, which judges first. The contracts cite specs/Steps.antt and specs/InPlace.antt.
+// The steps of one post without the judgement of its record (12), for the crates that use it: total, and defined for every record.
+// Hosts use the crate `single`, which judges first. The contracts cite specs/Steps.antt, specs/Refusals.antt and specs/InPlace.antt.
 mod hearing;
 mod ordering;
 

@@ -1,4 +1,5 @@
--- The yard bench of document 01, its inputs and what each case says, in one joint table. Assumes nothing.
+-- The yard bench of document 01, of frames and posts run singly: inputs and what each case says, a part of the joint table
+-- of the crate `script_table`. Assumes nothing.
 use Prim.Native.Nat.{ℕ}
 use mathlib.Core.Path.{_≡_}
 use mathlib.Core.List.{List, [], _∷_, _++_}

@@ -31,7 +31,7 @@ frameOfHearing p frame = hearBuffer p frame blank
 abbrev pub items : Post → List (List ℕ)
 items p = map (λ (place : ℕ). getD (p .stamps) place 0 ∷ place / 16 ∷ getD (p .words) place 0 ∷ []) (take (p .logged) (p .log))
 
--- ---- the printed script, line by line: frames 0, 1, 2 and 4
+-- ---- the printed script, line by line: frames 0, 1 and 2
 
 abbrev pub frame0 : List ℕ
 frame0 = frameOfOrder (fresh 0) 417

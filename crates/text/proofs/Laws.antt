@@ -1,12 +1,12 @@
 -- Laws of the definitions in specs/. Assumes nothing.
-use mathlib.Core.Path.{_≡_, refl, ap, sym, _∙_}
-use mathlib.Core.List.{List, [], _∷_, _++_, append-nil}
+use mathlib.Core.Path.{_≡_, refl, ap, _∙_}
+use mathlib.Core.List.{List, [], _∷_, _++_}
 use Prim.Native.Nat.{ℕ, suc, _+_, _-_, _<_, _≤_}
 use native.Mathlib.Numerals.{add-one}
 use native.Mathlib.Omega.{arith}
-use borrow.Author.Tests.{lt-ltb, le-ltb}
-use lib.ListN.{length, take, drop, getD, set, length-set, length-append, take-append-drop}
-use lib.Seq.{take-suc, sets, sets-eq, length-take-le, drop-length, take-append-seam}
+use borrow.Author.Tests.{lt-ltb}
+use lib.ListN.{length, take, drop, getD, set, length-set}
+use lib.Seq.{take-suc, sets, sets-eq}
 use Rattle.text.specs.Writing.{Out, out, wroteByte, wrote}
 
 -- two texts one after the other are one text
@@ -35,27 +35,3 @@ wrote-sets (x ∷ t) l at h =
 
 pub wrote-fits : (t l : List ℕ) (at : ℕ) → at + length t ≤ length l → wrote (out l at) t ≡ out (take at l ++ t ++ drop (at + length t) l) (at + length t)
 wrote-fits t l at h = wrote-sets t l at h ∙ ap (λ (b : List ℕ). out b (at + length t)) (sets-eq t l at h)
-
--- past the end nothing is written
-pub wrote-full : (t l : List ℕ) (at : ℕ) → length l ≤ at → wrote (out l at) t ≡ out l at
-unfolding wrote wroteByte
-wrote-full [] l at h = refl
-wrote-full (x ∷ t) l at h = rw (le-ltb at (length l) h) (wrote-full t l at h)
-
--- where a text does not fit, what fits of it is written, and the position is the buffer's length
-pub wrote-short : (t l : List ℕ) (at : ℕ) → at ≤ length l → length l ≤ at + length t → wrote (out l at) t ≡ out (take at l ++ take (length l - at) t) (length l)
-wrote-short t l at h g =
-    let k = length l - at in
-    let n : length (take k t) ≡ k = length-take-le k t (omega arith) in
-    let q : at + length (take k t) ≡ length l = omega arith in
-    let d : drop (length l) l ≡ [] = drop-length l in
-    let e : wrote (out l at) (take k t) ≡ out (take at l ++ take k t) (length l) =
-    wrote-fits (take k t) l at (omega arith) ∙ rw (q, d, append-nil (take at l ++ take k t)) in
-    let s : length (take at l ++ take k t) ≤ length l = omega (arith, length-append (take at l) (take k t), length-take-le at l h) in
-    (rw (take-append-drop k t) at (sym (wrote-append (out l at) (take k t) (drop k t)))) ∙ ap (λ (o : Out). wrote o (drop k t)) e ∙ wrote-full (drop k t) _ (length l) s
-
--- from the buffer's start: what was written is the text
-pub wrote-start : (t l : List ℕ) → length t ≤ length l → (wrote (out l 0) t .at ≡ length t) × (take (length t) (wrote (out l 0) t .buffer) ≡ t)
-wrote-start t l h =
-    let e = wrote-fits t l 0 (omega arith) in
-    (ap (λ (o : Out). o .at) e ∙ omega arith, ap (λ (o : Out). take (length t) (o .buffer)) e ∙ take-append-seam t _)

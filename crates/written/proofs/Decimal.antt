@@ -1,13 +1,12 @@
 -- A number in decimal, with a digit more. Assumes nothing.
 use mathlib.Core.Path.{_≡_, refl}
 use mathlib.Core.Bool.{Bool, true, false}
-use mathlib.Core.List.{List, [], _∷_, _++_}
+use mathlib.Core.List.{[], _∷_, _++_}
 use Prim.Native.Nat.{ℕ, _+_, _*_, _/_, _%_, _<_, _≤_}
 use native.Mathlib.Omega.{arith}
 use lib.Dec.{leb}
-use lib.ListN.{length, length-append}
 use borrow.Author.Tests.{leb-true, leb-false, le-leb, lt-leb}
-use Rattle.text.specs.Decimal.{decimal, given, digitByte}
+use Rattle.text.specs.Decimal.{decimal}
 
 -- two orders that agree
 leb-same : (x y z w : ℕ) → (z ≤ w → x ≤ y) → (w < z → y < x) → leb x y ≡ leb z w
@@ -35,18 +34,3 @@ decimal-more b d h l k =
     let e4 : (10 * b + d) / 10 % 10 ≡ b % 10 = omega arith in
     let e5 : (10 * b + d) % 10 ≡ d = omega arith in
     rw (a1, a2, a3, le-leb 10 (10 * b + d) (omega arith), lt-leb 10000 b l, e1, e2, e3, e4, e5)
-
-pub decimal-length : (d : ℕ) → d < 10 → length (decimal d) ≡ 1
-decimal-length d h = rw (decimal-digit d h)
-
-pub decimal-some : (n : ℕ) → 1 ≤ length (decimal n)
-unfolding decimal
-decimal-some n =
-    let last : List ℕ = digitByte n ∷ [] in
-    omega (
-      arith,
-      length-append (
-          given (leb 10000 n) (digitByte (n / 10000) ∷ []) ++ given (leb 1000 n) (digitByte (n / 1000) ∷ [])
-          ++ given (leb 100 n) (digitByte (n / 100) ∷ []) ++ given (leb 10 n) (digitByte (n / 10) ∷ [])
-          ) last,
-    )

@@ -10,5 +10,4 @@ pub mod Texts
 pub mod PostsSound
 pub mod PostsComplete
 pub mod Yard
-pub mod Lengths
 pub mod Theorem

@@ -15,8 +15,7 @@ use Rattle.steps.specs.Steps.{hearStep}
 use Rattle.steps.specs.declared.HearAnswer as hearings
 use Rattle.steps.specs.declared.Heard.{Heard}
 use Rattle.yard.specs.Yards.{postAt}
-use Rattle.yard.specs.Singles.{framesAfter, stopsHearing, frameAt, postHears, postHearsAir, withPost, yardHears, yardHearsAir}
-use Rattle.yard.specs.Parts.{absentRefusal}
+use Rattle.yard.specs.Singles.{framesAfter, absentRefusal, stopsHearing, frameAt, postHears, postHearsAir, withPost, yardHears, yardHearsAir}
 use Rattle.yard.specs.declared.Yard.{Yard}
 use Rattle.yard.specs.declared.PostHeard.{PostHeard}
 use Rattle.yard.specs.declared.YardHeard.{YardHeard}
@@ -31,7 +30,7 @@ on-air-read air frames k got e a o = rw (a, o) at e
 pub hear-judged : (air : List ℕ) (p : Post) (frames k m n : ℕ) (got : FrameRead) → got ≡ readOf (stretchOf air frames k)
     → m ≡ absentRefusal air (p .lane) (p .posts) frames k → n ≡ cond (eqb m 0) (got .refusal) m
     → (n ≡ stopsHearing air p frames k) × (n ≡ 0 → got .frame ≡ frameAt air k)
-unfolding absentRefusal readOf
+unfolding readOf
 hear-judged air p frames k m n got eg em en = go (badAir air) refl (notOnAir frames k) refl (notInYard (p .posts) (p .lane)) refl
   where
     go : (a : Bool) → badAir air ≡ a → (o : Bool) → notOnAir frames k ≡ o → (s : Bool) → notInYard (p .posts) (p .lane) ≡ s

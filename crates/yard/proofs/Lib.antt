@@ -3,3 +3,4 @@ pub mod FreshWays
 pub mod OrderWays
 pub mod HearWays
 pub mod BeaconWays
+pub mod Answers

@@ -9,8 +9,7 @@ use Rattle.frame.specs.declared.Frame.{Frame}
 use Rattle.air.specs.Air.{badAir, notOnAir, stretchRefusal, placeRefusal}
 use Rattle.air.proofs.Laws.{has-place}
 use Rattle.cells.specs.Sets.{hasLane}
-use Rattle.yard.specs.Singles.{framesAfter}
-use Rattle.yard.specs.Parts.{absentRefusal}
+use Rattle.yard.specs.Singles.{framesAfter, absentRefusal}
 
 -- a frame that is written has a place, so the count of frames does not wrap
 pub has-room : (air : List ℕ) (frames n : ℕ) (f : Frame) → n ≡ placeRefusal air frames f → n ≡ 0 → frames < 2048
@@ -28,7 +27,7 @@ not-counted air frames n f e h = rw (← e, ne-eqb n 0 h)
 pub absent-is : (air : List ℕ) (lane posts frames k n r : ℕ) (here : Bool) → n ≡ stretchRefusal air frames k → here ≡ hasLane posts lane
     → r ≡ cond (eqb n 25 && not here) 21 n
     → r ≡ absentRefusal air lane posts frames k
-unfolding stretchRefusal absentRefusal
+unfolding stretchRefusal
 absent-is air lane posts frames k n r here en eh er = go (badAir air) refl (notOnAir frames k) refl here refl
   where
     go : (a : Bool) → badAir air ≡ a → (o : Bool) → notOnAir frames k ≡ o → (h : Bool) → here ≡ h → r ≡ absentRefusal air lane posts frames k

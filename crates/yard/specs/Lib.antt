@@ -1,4 +1,3 @@
 pub mod Yards
 pub mod Singles
 pub mod Worlds
-pub mod Parts

@@ -1,5 +1,5 @@
 // The yard: up to eight posts and the lent air. Every step is judged for any yard and any air, and a refusal leaves both as they were.
-// The contracts cite specs/Singles.antt.
+// The contracts cite specs/Yards.antt and specs/Singles.antt.
 pub mod parts;
 
 use air;
@@ -9,7 +9,8 @@ use steps::HearAnswer;
 use steps::OrderAnswer;
 ghost use mathlib.Core.Path.{_≡_};
 ghost use Rattle.yard.specs.Yards.{yardMade};
-ghost use Rattle.yard.specs.Singles.{postOrders, postOrdersAir, yardOrders, yardOrdersAir, postHears, postHearsAir, yardHears, yardHearsAir, postBeacons, postBeaconsAir, yardBeacons, yardBeaconsAir};
+ghost use Rattle.steps.specs.Answers.{orderNumber, orderSerial, orderStamp, orderCount, hearNumber, hearCount, beaconNumber};
+ghost use Rattle.yard.specs.Singles.{postOrders, postOrdersAir, yardOrders, yardOrdersAir, orderRefusalInYard, orderSerialInYard, orderStampInYard, orderCountInYard, postHears, postHearsAir, yardHears, yardHearsAir, hearRefusalInYard, hearCountInYard, postBeacons, postBeaconsAir, yardBeacons, yardBeaconsAir, beaconRefusalInYard};
 
 pub const LANES: usize = 8;
 
@@ -176,6 +177,10 @@ pub fn post_beacons(p: Post, air: &mut [u8], frames: u16, beacons: u16) -> PostB
 pub fn order(y: Yard, air: &mut [u8], lane: usize, word: usize) -> YardOrdered
     ensures { λ r. ⌜ r ≡ yardOrders (now (air .entry)) y lane word ⌝ }
     ensures bytes { λ _. ⌜ now (air .exit) ≡ yardOrdersAir (now (air .entry)) y lane word ⌝ }
+    ensures number { λ r. ⌜ orderNumber (r .answer) ≡ orderRefusalInYard (now (air .entry)) y lane word ⌝ }
+    ensures serial { λ r. ⌜ orderSerial (r .answer) ≡ orderSerialInYard (now (air .entry)) y lane word ⌝ }
+    ensures stamp { λ r. ⌜ orderStamp (r .answer) ≡ orderStampInYard (now (air .entry)) y lane word ⌝ }
+    ensures count { λ r. ⌜ orderCount (r .answer) ≡ orderCountInYard (now (air .entry)) y lane word ⌝ }
 {
     if lane >= LANES {
         return YardOrdered {
@@ -207,6 +212,8 @@ pub fn order(y: Yard, air: &mut [u8], lane: usize, word: usize) -> YardOrdered
 pub fn hear(y: Yard, air: &mut [u8], lane: usize, k: usize) -> YardHeard
     ensures { λ r. ⌜ r ≡ yardHears (now (air .entry)) y lane k ⌝ }
     ensures bytes { λ _. ⌜ now (air .exit) ≡ yardHearsAir (now (air .entry)) y lane k ⌝ }
+    ensures number { λ r. ⌜ hearNumber (r .answer) ≡ hearRefusalInYard (now (air .entry)) y lane k ⌝ }
+    ensures count { λ r. ⌜ hearCount (r .answer) ≡ hearCountInYard (now (air .entry)) y lane k ⌝ }
 {
     if lane >= LANES {
         return YardHeard {
@@ -231,6 +238,7 @@ pub fn hear(y: Yard, air: &mut [u8], lane: usize, k: usize) -> YardHeard
 pub fn beacon(y: Yard, air: &mut [u8], lane: usize) -> YardBeaconed
     ensures { λ r. ⌜ r ≡ yardBeacons (now (air .entry)) y lane ⌝ }
     ensures bytes { λ _. ⌜ now (air .exit) ≡ yardBeaconsAir (now (air .entry)) y lane ⌝ }
+    ensures number { λ r. ⌜ beaconNumber (r .answer) ≡ beaconRefusalInYard (now (air .entry)) y lane ⌝ }
 {
     if lane >= LANES {
         return YardBeaconed {

@@ -12,8 +12,7 @@ ghost use Rattle.frame.specs.ReadWrite.{readOf};
 ghost use Rattle.air.specs.Air.{stretchOf, airWith};
 ghost use Rattle.cells.specs.Tables.{orderPlace};
 ghost use Rattle.yard.specs.Yards.{freshYard};
-ghost use Rattle.yard.specs.Singles.{framesAfter};
-ghost use Rattle.yard.specs.Parts.{absentRefusal};
+ghost use Rattle.yard.specs.Singles.{framesAfter, absentRefusal};
 
 // Each of the eight records fresh, no frame on the air yet, no beacon sent.
 pub(crate) fn fresh_yard(present: u8, sources: u8, dests: u8) -> Yard

@@ -25,4 +25,4 @@ returns : tie.Need-returns Inv-loop μ-loop
 returns c = let e : c .before .loop .k ≡ 128 = omega arith in rw e at (c .before .loop .inv .1 .1)
 
 pub bad-unused-spec : {M : Type 1} → statement M
-bad-unused-spec = tie.close (tie.spec Inv-loop μ-loop loop-holds (λ c. search needs) (λ c κs. tt) (λ c. search needs) (λ c. search needs) loop-again returns)
+bad-unused-spec = tie.close (tie.spec Inv-loop μ-loop loop-holds (λ c κs. tt) (λ c. search needs) (λ c. search needs) loop-again returns)

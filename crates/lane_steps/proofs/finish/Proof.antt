@@ -1,4 +1,3 @@
-use borrow.Author.Needs.{needs}
 use Rattle.lane_steps.proofs.FinishWays.{delivers, refused}
 use Rattle.lane_steps.proofs.finish.Statement.{statement}
 use Rattle.lane_steps.proofs.finish.Tie as tie

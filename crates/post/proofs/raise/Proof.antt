@@ -1,6 +1,5 @@
 use Rattle.post.proofs.Laws.{raise-larger, raise-known}
 use native.Mathlib.Omega.{arith}
-use borrow.Author.Needs.{needs}
 use Rattle.post.proofs.raise.Statement.{statement}
 use Rattle.post.proofs.raise.Tie as tie
 

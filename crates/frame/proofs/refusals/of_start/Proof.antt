@@ -11,25 +11,31 @@ returns c = stops _ refl (c .if1 .taken)
 
 returns-2 : tie.Need-returns-2
 unfolding startRefusal
-returns-2 c = passes _ refl (c .before .if1 .left) (stops _ refl (c .if2 .taken))
+returns-2 c = passes _ refl (c .before .before .before .if1 .left) (stops _ refl (c .if2 .taken))
 
 returns-3 : tie.Need-returns-3
 unfolding startRefusal
-returns-3 c = passes _ refl (c .before .before .if1 .left) (passes _ refl (c .before .if2 .left) (stops _ refl (c .if3 .taken)))
+returns-3 c =
+    let second = c .before .before .before .before in
+    passes _ refl (second .before .before .before .if1 .left)
+    (passes _ refl (second .if2 .left)
+    (stops _ refl (c .if3 .taken)))
 
 returns-4 : tie.Need-returns-4
 unfolding startRefusal
 returns-4 c =
-    passes _ refl (c .before .before .before .if1 .left)
-    (passes _ refl (c .before .before .if2 .left)
+    let second = c .before .before .before .before .before in
+    passes _ refl (second .before .before .before .if1 .left)
+    (passes _ refl (second .if2 .left)
     (passes _ refl (c .before .if3 .left)
     (stops _ refl (lt-ltb _ _ (c .if4 .taken)))))
 
 returns-5 : tie.Need-returns-5
 unfolding startRefusal
 returns-5 c =
-    passes _ refl (c .before .before .before .if1 .left)
-    (passes _ refl (c .before .before .if2 .left)
+    let second = c .before .before .before .before .before in
+    passes _ refl (second .before .before .before .if1 .left)
+    (passes _ refl (second .if2 .left)
     (passes _ refl (c .before .if3 .left)
     (passes _ refl (le-ltb _ _ (c .if4 .left)) refl)))
 

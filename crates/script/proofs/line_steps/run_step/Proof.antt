@@ -1,8 +1,7 @@
-use mathlib.Core.Path.{refl, ap}
+use mathlib.Core.Path.{refl}
 use Rattle.yard.specs.Worlds.{single}
 use Rattle.roll.specs.Runs.{answer, step, run}
 use borrow.Author.Needs.{needs}
-use Rattle.script.specs.declared.Stepped.{Stepped}
 use Rattle.script.proofs.line_steps.run_step.Statement.{statement}
 use Rattle.script.proofs.line_steps.run_step.Tie as tie
 

@@ -1,4 +1,3 @@
-use Rattle.script.specs.Rows.{rows}
 use Rattle.script.proofs.SoundLaws.{reached-singles}
 use Rattle.script.proofs.RollLaws.{rows-13, rows-27, rows-run}
 use native.Mathlib.Omega.{arith}

@@ -6,7 +6,6 @@ use Rattle.script.proofs.SoundLaws.{reached-singles}
 use Rattle.script.proofs.RollLaws.{orders-more}
 use lib.ListN.{length}
 use Prim.Native.Nat.{ℕ, _≤_, _-_}
-use mathlib.Core.List.{List}
 use mathlib.Core.Path.{_≡_, _∙_, refl}
 use native.Mathlib.Omega.{arith}
 use borrow.Author.Needs.{needs}

@@ -1,5 +1,5 @@
-use mathlib.Core.Path.{_≡_, _∙_}
-use lib.ListN.{length, length-map}
+use mathlib.Core.Path.{_∙_}
+use lib.ListN.{length-map}
 use Rattle.state.proofs.Laws.{record-wrote, record-length}
 use Rattle.state.proofs.bytes.put_record.Statement.{statement}
 use Rattle.state.proofs.bytes.put_record.Tie as tie
@@ -24,7 +24,7 @@ returns c =
     let table = stamps .before .before .before .before .before .before .before in
     let last = table .before .before .before .before .before .before .before in
     let head = last .before .before .before .before .before .before .before in
-    let arrays = head .before .before .before .good .1 .1 .0 .1 .1 .1 .1 .1 .1 .1 .1 in
+    let arrays = head .before .before .before .good .1 .1 .0 .1 .1 .1 .1 .1 .1 .1 .1 .1 in
     let p = head .before .before .before .args .t3 in (
       record-wrote p _ (head .put-head .ensures) (last .put-text .ensures) (table .put-pairs .ensures) (stamps .put-pairs2 .ensures) (words .put-pairs3 .ensures) (log .put-text2 .ensures) (logged .put-byte .ensures),
       record-length p (simp length-map at (arrays .0 .1 .0 .1)) (simp length-map at (arrays .1 .0 .1 .0 .1)) (simp length-map at (arrays .1 .1 .0 .1 .0 .1)) (simp length-map at (arrays .1 .1 .1 .0 .1 .0 .1)) (simp length-map at (arrays .1 .1 .1 .1 .0 .1 .0 .1)),

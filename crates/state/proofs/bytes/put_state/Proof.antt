@@ -1,6 +1,5 @@
 use borrow.Author.Needs.{needs}
-use mathlib.Core.Path.{_≡_}
-use lib.ListN.{length, length-map}
+use lib.ListN.{length-map}
 use Rattle.state.proofs.Laws.{state-wrote, state-length}
 use Rattle.state.proofs.bytes.put_state.Statement.{statement}
 use Rattle.state.proofs.bytes.put_state.Tie as tie

@@ -1,0 +1,60 @@
+// The steps of `single` by value, with the answer as one number: specs/Lent.antt.
+use crate::Made;
+use crate::Stepped;
+use crate::told::beacon_number;
+use crate::told::hear_told;
+use crate::told::order_told;
+use post::Post;
+ghost use mathlib.Core.Path.{_≡_};
+ghost use Rattle.single.specs.Single.{orderBuffer, hearBuffer, beaconRefusalSingly, beaconBuffer};
+ghost use Rattle.lent_post.specs.Lent.{made, ordered, heard};
+
+// A fresh post, or the refusal (12, 21) and the post as it was.
+pub(crate) fn fresh(p: Post, lane: u8, posts: u8, sources: u8, dests: u8) -> Made
+    ensures { λ r. ⌜ r ≡ made p lane posts sources dests ⌝ }
+{
+    let asked = single::fresh(lane, posts, sources, dests);
+    let post = asked.post;
+    if asked.refusal == 0 {
+        Made {
+            refusal: 0,
+            post: post,
+        }
+    } else {
+        Made {
+            refusal: asked.refusal,
+            post: p,
+        }
+    }
+}
+
+pub(crate) fn order(p: Post, word: u16, buffer: &mut [u8]) -> Stepped
+    ensures { λ r. ⌜ (r ≡ ordered p word (now (buffer .entry))) × (now (buffer .exit) ≡ orderBuffer p word (now (buffer .entry))) ⌝ }
+{
+    let sent = single::order(p, word, buffer);
+    let answer = sent.answer;
+    let after = sent.post;
+    Stepped {
+        answer: order_told(answer),
+        post: after,
+    }
+}
+
+pub(crate) fn hear(p: Post, frame: &[u8], buffer: &mut [u8]) -> Stepped
+    ensures { λ r. ⌜ (r ≡ heard p (now (frame .entry)) (now (buffer .entry))) × (now (buffer .exit) ≡ hearBuffer p (now (frame .entry)) (now (buffer .entry))) ⌝ }
+{
+    let heard = single::hear(p, frame, buffer);
+    let answer = heard.answer;
+    let after = heard.post;
+    Stepped {
+        answer: hear_told(answer),
+        post: after,
+    }
+}
+
+pub(crate) fn beacon(p: Post, buffer: &mut [u8]) -> u8
+    ensures { λ r. ⌜ (r ≡ beaconRefusalSingly p (now (buffer .entry))) × (now (buffer .exit) ≡ beaconBuffer p (now (buffer .entry))) ⌝ }
+{
+    let answer = single::beacon(p, buffer);
+    beacon_number(answer)
+}

@@ -1,188 +1,23 @@
 /*
  * DRIFT for the radio firmware: a frame checked, read and written.
+ * DRIFT for firmware and hosts: one post, run singly on a lent record.
  * DRIFT for a host: a yard, run by a script.
  *
- * For frames alone link with target/staticlib/libframe.a, which
- * `rt staticlib frame` makes; for scripts with target/staticlib/libscript.a,
- * which `rt staticlib script` makes; for the state behind a script with
- * target/staticlib/libstate.a, which `rt staticlib state` makes. libframe.a
- * calls no other library, the others only memcpy and memset, which every C
- * compiler asks for.
+ * Link with the archive of what is used, from target/staticlib:
+ *
+ *   drift_frame_...      libframe.a       made by `rt staticlib frame`
+ *   drift_post_...       liblent_post.a   made by `rt staticlib lent_post`
+ *   drift_run_script     libscript.a      made by `rt staticlib script`
+ *   drift_script_state   libstate.a       made by `rt staticlib state`
+ *
+ * libframe.a calls no other library, the others only memcpy and memset, which
+ * compiled C may call anyway. The headers are for C11 and C++17, and later ones.
  */
 #ifndef DRIFT_H
 #define DRIFT_H
 
-#include <stddef.h>
-#include <stdint.h>
-
-#ifdef __cplusplus
-extern "C" {
-#endif
-
-/* Number of bytes in a frame. */
-#define DRIFT_FRAME_LENGTH 32
-
-/* Byte 0 of a frame: its kind. */
-enum drift_frame_kind {
-    DRIFT_KIND_ORDER = 1,
-    DRIFT_KIND_BEACON = 2
-};
-
-/* What the functions on frames answer: 0, or the number of the refusal. */
-enum drift_frame_answer {
-    /* The frame can be read, or was read or written. */
-    DRIFT_FRAME_GOOD = 0,
-    /* Frame, or the buffer for one, not 32 bytes. */
-    DRIFT_NOT_32_BYTES = 6,
-    /* Kind neither 1 nor 2. */
-    DRIFT_BAD_KIND = 7,
-    /* Beacon with a nonzero byte in 2-7. */
-    DRIFT_BAD_BEACON = 8,
-    /* Order frame with lane over 7, serial 0 or over 16, or stamp 0. */
-    DRIFT_BAD_ORDER = 9,
-    /* Sender over 7. */
-    DRIFT_BAD_SENDER = 10,
-    /* An entry with serial over 16, or stamp 0 and serial not 0. */
-    DRIFT_BAD_ENTRY = 11
-};
-
-/*
- * Tells whether the bytes of a received frame can be read.
- *
- * Returns 0 (DRIFT_FRAME_GOOD) if they can, else the number of the refusal,
- * 6 to 11 as in enum drift_frame_answer. If more than one refusal holds, the
- * lowest number is returned. No other value is returned.
- *
- * bytes must point to length readable bytes. With length 0 it may be NULL.
- * The function never writes to the bytes and does not keep the pointer.
- *
- * It has no state, needs no initialisation and no heap, and may be called from
- * any thread or interrupt handler. The x86-64 archive may use the vector (SSE)
- * registers, so an interrupt handler that calls it must save those.
- */
-uint8_t drift_frame_check(const uint8_t *bytes, size_t length);
-
-/* Number of fields of a frame. */
-#define DRIFT_FRAME_FIELDS 22
-
-/* Number of lanes; they are named 0 to 7. */
-#define DRIFT_LANES 8
-
-/* The places of the fields; those of the entry of a lane follow below. */
-enum drift_frame_field {
-    DRIFT_FIELD_KIND = 0,
-    DRIFT_FIELD_SENDER = 1,
-    DRIFT_FIELD_LANE = 2,
-    DRIFT_FIELD_SERIAL = 3,
-    DRIFT_FIELD_STAMP = 4,
-    DRIFT_FIELD_WORD = 5
-};
-
-/* The places of the serial and the stamp in the entry of a lane, 0 to 7. */
-#define DRIFT_FIELD_ENTRY_SERIAL(lane) (6 + 2 * (lane))
-#define DRIFT_FIELD_ENTRY_STAMP(lane) (7 + 2 * (lane))
-
-/*
- * Reads the bytes of a received frame into its fields.
- *
- * Returns 0 (DRIFT_FRAME_GOOD) and puts the frame's DRIFT_FRAME_FIELDS numbers
- * into fields, or returns what drift_frame_check returns for the bytes and
- * leaves the fields as they were. If fields_length is not DRIFT_FRAME_FIELDS
- * it returns DRIFT_NOT_32_BYTES: the fields are the buffer for a frame.
- *
- * bytes must point to length readable bytes, fields to fields_length readable
- * and writable numbers; the two do not overlap. With length 0 a pointer may be
- * NULL. No pointer is kept. For the rest it is as drift_frame_check.
- */
-uint8_t drift_frame_read(const uint8_t *bytes, size_t length,
-                         uint16_t *fields, size_t fields_length);
-
-/*
- * Writes the frame that the fields make into a buffer.
- *
- * Returns 0 (DRIFT_FRAME_GOOD) and puts the frame's DRIFT_FRAME_LENGTH bytes
- * into buffer, or returns the number of the refusal, the lowest that holds,
- * and leaves the buffer as it was. If fields_length is not DRIFT_FRAME_FIELDS
- * or buffer_length not DRIFT_FRAME_LENGTH that is DRIFT_NOT_32_BYTES. A number
- * over 255 in a field of one byte (kind, sender, lane, a serial) counts as
- * 255, and so is refused.
- *
- * What drift_frame_read accepts is written back as the same bytes, and what
- * drift_frame_write writes is read back as the same fields.
- *
- * fields must point to fields_length readable numbers, buffer to buffer_length
- * readable and writable bytes; the two do not overlap. With length 0 a pointer
- * may be NULL. No pointer is kept. For the rest it is as drift_frame_check.
- */
-uint8_t drift_frame_write(const uint16_t *fields, size_t fields_length,
-                          uint8_t *buffer, size_t buffer_length);
-
-/* The longest script that is not refused, in bytes (refusal 1). */
-#define DRIFT_LONGEST_SCRIPT 48000
-
-/* Number of bytes of the air (refusal 13). */
-#define DRIFT_AIR_LENGTH 65536
-
-/* Number of bytes of the output. Every printout fits. */
-#define DRIFT_OUTPUT_LENGTH 131072
-
-/*
- * Runs a script over a fresh yard and the lent air, and prints into the lent
- * output: what the yard program prints for the same script.
- *
- * Returns the number of bytes printed, which are the first of the output; the
- * bytes after them keep what they held. Every script prints something: one
- * that is refused prints `(bad LINE NUMBER)`, and the air keeps its bytes.
- * Returns 0 only if output_length is not DRIFT_OUTPUT_LENGTH; then air and
- * output keep their bytes.
- *
- * The air's bytes may be anything at first, and hold the broadcast frames
- * afterwards. If air_length is not DRIFT_AIR_LENGTH each step is refused by 13
- * and the air keeps its bytes.
- *
- * script must point to script_length readable bytes, air and output to
- * air_length and output_length readable and writable ones; the three do not
- * overlap. With length 0 a pointer may be NULL. No pointer is kept.
- *
- * It has no state, needs no initialisation and no heap. It uses some 64 KB of
- * the caller's stack: have 128 KB free.
- */
-size_t drift_run_script(const uint8_t *script, size_t script_length,
-                        uint8_t *air, size_t air_length,
-                        uint8_t *output, size_t output_length);
-
-/* Number of bytes of a state. */
-#define DRIFT_STATE_LENGTH 7692
-
-/*
- * Runs a script as drift_run_script does, and writes the state that it leaves
- * behind its printout: each post's record, the yard's own numbers, and the
- * answer of the last line. Link with target/staticlib/libstate.a, which
- * `rt staticlib state` makes.
- *
- * Returns DRIFT_STATE_LENGTH and fills the state; the air holds the broadcast
- * frames, as after drift_run_script. Returns 0 if the script is refused (1 to
- * 5) or state_length is not DRIFT_STATE_LENGTH; then air and state keep their
- * bytes.
- *
- * A number of two bytes has the high byte first. At 928 x lane, for lanes 0 to
- * 7, the record: lane, posts, sources, dests, clock (2), own serial, last taken
- * (8), table (136 x 2), stamps (128 x 2), words (128 x 2), log (128), length of
- * the log. At 7424 the number of frames (2), at 7426 of beacons (2), at 7428
- * the number of each order's first frame (128 x 2). At 7684 the answer of the
- * last line: its code (0 refused, 1 order sent, 2 taken, 3 again, 4 early,
- * 5 beacon heard, 6 beacon sent, 7 no step yet, 8 roll call ran), the refusal's
- * number, the count delivered, the order's serial, its stamp (2), the number of
- * single steps of the roll call (2); 0 for each that the answer has not.
- *
- * For the pointers and the rest it is as drift_run_script.
- */
-size_t drift_script_state(const uint8_t *script, size_t script_length,
-                          uint8_t *air, size_t air_length,
-                          uint8_t *state, size_t state_length);
-
-#ifdef __cplusplus
-}
-#endif
+#include "drift_frame.h"
+#include "drift_post.h"
+#include "drift_script.h"
 
 #endif

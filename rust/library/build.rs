@@ -6,8 +6,8 @@ use std::path::{Path, PathBuf};
 /// A folder that overrides the place where `rt staticlib` writes.
 const FOLDER_VARIABLE: &str = "DRIFT_STATICLIB";
 
-/// The crates whose functions are compared; each has a library of its own.
-const CRATES: [&str; 3] = ["frame", "script", "state"];
+/// The crates whose functions are linked; each has a library of its own.
+const CRATES: [&str; 4] = ["frame", "script", "state", "lent_post"];
 
 fn main() {
     println!("cargo::rerun-if-changed=build.rs");

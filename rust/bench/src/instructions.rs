@@ -1,8 +1,10 @@
 //! Instructions, counted by callgrind in a process of their own.
 
 use crate::rows::{Job, Row};
-use crate::side::{Side, SIDES};
-use crate::work::{Lent, Work};
+use crate::side::{Records, Side, SIDES};
+use crate::work::{Lent, PostStep, Work};
+use drift_reference::frame::FRAME_LENGTH;
+use drift_reference::post::Post;
 use std::env;
 use std::io::ErrorKind;
 use std::process::Command;
@@ -76,6 +78,13 @@ fn first_calls(side: &Side, lent: &mut Lent) {
     Work::Read(vec![Vec::new()]).run(side, lent);
     Work::Write(vec![Vec::new()]).run(side, lent);
     Work::Script(FIRST_SCRIPT.to_vec()).run(side, lent);
+    let steps = vec![
+        PostStep::Order(1),
+        PostStep::Hear([0; FRAME_LENGTH]),
+        PostStep::Beacon,
+    ];
+    let post = Post::fresh(0, 1, 1, 1).expect("a good post");
+    Work::Post(Box::new(Records::new(&post)), steps).run(side, lent);
 }
 
 #[cfg(test)]

@@ -21,11 +21,12 @@ use work::Lent;
 
 const NOTES: &str = "
 Each row is one operation. A line in a yard or a roll call costs what a script
-with such lines costs, less the same script without them, shared out among them.
-Air and output are not cleared between calls. Both sides are compiled at their
-usual release level, are called through a pointer and call the same C library's
-memcpy. Instructions are callgrind's, with some 10 of the loop around each call.
-Times are those of the fastest round, for lines and roll calls the median of the
+with such lines costs, less the same script without them, shared out among them;
+a step of one post in the same way, less the copying of its record. Air and output
+are not cleared between calls. Both sides are compiled at their usual release
+level, are called through a pointer and call the same C library's memcpy.
+Instructions are callgrind's, with some 10 of the loop around each call. Times are
+those of the fastest round, for posts, lines and roll calls the median of the
 fastest quarter; the two sides take turns.";
 
 const NO_VALGRIND: &str = "\

@@ -2,6 +2,7 @@
 
 mod draft;
 mod frames;
+mod posts;
 mod scripts;
 mod steps;
 
@@ -39,6 +40,7 @@ impl Row {
 /// All rows, in the order of the table.
 pub fn all() -> Vec<Row> {
     let mut rows = frames::rows();
+    rows.extend(posts::rows());
     rows.extend(steps::rows());
     rows.extend(scripts::rows());
     rows

@@ -2,7 +2,9 @@
 
 use drift_library as library;
 use drift_reference::frame::{check, Frame, NOT_32_BYTES};
+use drift_reference::post::{HearAnswer, Post};
 use drift_reference::script;
+use library::Heard;
 
 pub use drift_library::FRAME_FIELDS as FIELDS;
 
@@ -15,6 +17,36 @@ pub struct Side {
     pub write: fn(&[u16], &mut [u8]) -> u8,
     /// Script, air and output; the number of bytes printed.
     pub run: fn(&[u8], &mut [u8], &mut [u8]) -> usize,
+    /// The steps of a single post; what they answer, as one number.
+    pub order: fn(&mut Records, u16, &mut [u8]) -> usize,
+    pub hear: fn(&mut Records, &[u8], &mut [u8]) -> usize,
+    pub beacon: fn(&mut Records, &mut [u8]) -> usize,
+    /// This side's record after its steps.
+    pub record: fn(&Records) -> library::Post,
+}
+
+/// A post's record, once for each side, which leaves that of the other alone.
+#[derive(Clone, PartialEq, Eq)]
+pub struct Records {
+    lent: library::Post,
+    own: Post,
+}
+
+impl Records {
+    pub fn new(post: &Post) -> Records {
+        Records {
+            lent: record_of(post),
+            own: post.clone(),
+        }
+    }
+
+    /// What one side left, so that it can be compared with the other.
+    pub fn of_one(record: library::Post) -> Records {
+        Records {
+            lent: record,
+            own: Post::EMPTY,
+        }
+    }
 }
 
 /// The static libraries of the proved crates, then the second implementation.
@@ -25,6 +57,22 @@ pub const SIDES: [Side; 2] = [
         read: library::frame_read,
         write: library::frame_write,
         run: library::run_script,
+        order: |records, word, buffer| match records.lent.order(word, buffer) {
+            Err(number) => refused(number),
+            Ok(sent) => answered(1, sent.delivered),
+        },
+        hear: |records, frame, buffer| match records.lent.hear(frame, buffer) {
+            Err(number) => refused(number),
+            Ok(Heard::Taken(count)) => answered(2, count),
+            Ok(Heard::Again(count)) => answered(3, count),
+            Ok(Heard::Early(count)) => answered(4, count),
+            Ok(Heard::Beacon(count)) => answered(5, count),
+        },
+        beacon: |records, buffer| match records.lent.beacon(buffer) {
+            Err(number) => refused(number),
+            Ok(()) => answered(6, 0),
+        },
+        record: |records| records.lent,
     },
     Side {
         name: "rust",
@@ -32,8 +80,52 @@ pub const SIDES: [Side; 2] = [
         read: read_fields,
         write: write_fields,
         run: run_script,
+        order: |records, word, buffer| match records.own.order(word, buffer) {
+            Err(number) => refused(number),
+            Ok(sent) => answered(1, sent.count),
+        },
+        hear: |records, frame, buffer| match records.own.hear(frame, buffer) {
+            Err(number) => refused(number),
+            Ok(HearAnswer::Taken(count)) => answered(2, count),
+            Ok(HearAnswer::Again(count)) => answered(3, count),
+            Ok(HearAnswer::Early(count)) => answered(4, count),
+            Ok(HearAnswer::Beacon(count)) => answered(5, count),
+        },
+        beacon: |records, buffer| match records.own.beacon(buffer) {
+            Err(number) => refused(number),
+            Ok(()) => answered(6, 0),
+        },
+        record: |records| record_of(&records.own),
     },
 ];
+
+/// The number of a refusal as an answer; no other answer has it.
+fn refused(number: u8) -> usize {
+    number.into()
+}
+
+/// An answer with the count delivered.
+pub const fn answered(code: usize, count: u8) -> usize {
+    code << 8 | (count as usize) << 16
+}
+
+/// The record that is lent for a post of the second implementation.
+fn record_of(post: &Post) -> library::Post {
+    library::Post {
+        lane: post.lane,
+        posts: post.posts,
+        sources: post.sources,
+        dests: post.dests,
+        clock: post.clock.0,
+        serial: post.serial.0,
+        logged: post.logged,
+        last: post.last,
+        table: post.table,
+        stamps: post.stamps,
+        words: post.words,
+        log: post.log,
+    }
+}
 
 /// Reads a frame into its 22 fields: 0, or the refusal.
 fn read_fields(bytes: &[u8], fields: &mut [u16]) -> u8 {

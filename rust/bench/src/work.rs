@@ -1,7 +1,8 @@
 //! What one call of a measurement does, and the buffers that it is lent.
 
-use crate::side::{Side, FIELDS};
+use crate::side::{Records, Side, FIELDS};
 use drift_reference::frame::FRAME_LENGTH;
+use drift_reference::post::Post;
 use drift_reference::script::OUTPUT_LENGTH;
 use drift_reference::yard::AIR_LENGTH;
 use std::hint::black_box;
@@ -12,7 +13,17 @@ pub enum Work {
     Read(Vec<Vec<u8>>),
     Write(Vec<Vec<u16>>),
     Script(Vec<u8>),
+    /// Steps of a single post from this record on, which is copied first.
+    Post(Box<Records>, Vec<PostStep>),
     Nothing,
+}
+
+/// A step of a single post.
+#[derive(Clone)]
+pub enum PostStep {
+    Order(u16),
+    Hear([u8; FRAME_LENGTH]),
+    Beacon,
 }
 
 /// The buffers lent to a side. Nothing clears them between calls.
@@ -22,6 +33,7 @@ pub struct Lent {
     pub output: Vec<u8>,
     pub fields: Vec<u16>,
     pub buffer: Vec<u8>,
+    pub records: Records,
 }
 
 impl Lent {
@@ -31,6 +43,28 @@ impl Lent {
             output: vec![0; OUTPUT_LENGTH],
             fields: vec![0; FIELDS],
             buffer: vec![0; FRAME_LENGTH],
+            records: Records::new(&Post::EMPTY),
+        }
+    }
+
+    /// With the record of the side that ran a step, and not that of the other.
+    fn left_by(&self, side: &Side) -> Lent {
+        Lent {
+            records: Records::of_one((side.record)(&self.records)),
+            ..self.clone()
+        }
+    }
+}
+
+impl PostStep {
+    fn run(&self, side: &Side, lent: &mut Lent) -> usize {
+        let Lent {
+            records, buffer, ..
+        } = lent;
+        match self {
+            PostStep::Order(word) => (side.order)(records, *word, buffer),
+            PostStep::Hear(frame) => (side.hear)(records, frame, buffer),
+            PostStep::Beacon => (side.beacon)(records, buffer),
         }
     }
 }
@@ -57,6 +91,12 @@ impl Work {
             Work::Script(script) => {
                 let Lent { air, output, .. } = lent;
                 black_box((side.run)(black_box(script), air, output));
+            }
+            Work::Post(start, steps) => {
+                lent.records.clone_from(black_box(start));
+                for step in steps {
+                    black_box(black_box(step).run(side, lent));
+                }
             }
             Work::Nothing => {}
         }
@@ -89,8 +129,13 @@ impl Work {
                 }
             }
             Work::Script(script) => {
-                let printed = (side.run)(script, &mut lent.air, &mut lent.output);
-                note(printed, &lent);
+                note((side.run)(script, &mut lent.air, &mut lent.output), &lent);
+            }
+            Work::Post(start, steps) => {
+                lent.records.clone_from(start);
+                for step in steps {
+                    note(step.run(side, &mut lent), &lent.left_by(side));
+                }
             }
             Work::Nothing => {}
         }
@@ -107,8 +152,9 @@ fn distinct<T: PartialEq>(inputs: &[T]) -> Vec<&T> {
 
 #[cfg(test)]
 mod tests {
-    use super::Work;
-    use crate::side::{Side, SIDES};
+    use super::{PostStep, Work};
+    use crate::side::{Records, Side, SIDES};
+    use drift_reference::post::Post;
 
     const BEACON: [u8; 32] = {
         let mut bytes = [0; 32];
@@ -116,14 +162,17 @@ mod tests {
         bytes
     };
 
-    fn works() -> [Work; 4] {
+    fn works() -> [Work; 5] {
         let mut fields = vec![0; 22];
         fields[0] = 2;
+        let post = Post::fresh(1, 3, 3, 3).expect("a good post");
+        let steps = vec![PostStep::Order(7), PostStep::Hear(BEACON), PostStep::Beacon];
         [
             Work::Check(vec![BEACON.to_vec()]),
             Work::Read(vec![BEACON.to_vec()]),
             Work::Write(vec![fields]),
             Work::Script(b"(yard (0 both))\n(order 0 1)\n".to_vec()),
+            Work::Post(Box::new(Records::new(&post)), steps),
         ]
     }
 
@@ -145,6 +194,8 @@ mod tests {
                 let mut other_air = air.to_vec();
                 (SIDES[1].run)(script, &mut other_air, output)
             },
+            order: |records, word, buffer| (SIDES[1].order)(&mut records.clone(), word, buffer),
+            ..SIDES[1]
         };
         let sides = [wrong, second];
         assert!(!works().iter().any(|work| work.agrees(&sides)));

@@ -26,7 +26,7 @@ pub enum Part {
 /// by name.
 const PARTS: [(&str, Part, u64); 5] = [
     ("frames", Part::Frames, 200_000),
-    ("posts", Part::Posts, 60_000),
+    ("posts", Part::Posts, 600_000),
     ("scripts", Part::Scripts, 10_000),
     ("lists", Part::Lists, 1_000),
     ("second-lists", Part::SecondLists, 0),
@@ -104,7 +104,7 @@ mod tests {
 
     #[test]
     fn counts_of_all_parts_are_read_or_refused() {
-        let defaults = [1, 200_000, 60_000, 10_000, 1_000];
+        let defaults = [1, 200_000, 600_000, 10_000, 1_000];
         for given in 0..=5 {
             let line = (11..11 + given).map(|number| format!("{number} "));
             let mut expected = defaults.to_vec();

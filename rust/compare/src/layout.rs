@@ -1,20 +1,8 @@
-//! Where the numbers of a request or response stand; wide ones are big-endian.
+//! Where the numbers of a record stand in a state; wide ones are big-endian.
 
 use drift_reference::frame::{Serial, Stamp};
 use drift_reference::post::Post;
 use std::array;
-
-/// Number of bytes of a request and of a response.
-pub const LENGTH: usize = RECORD + RECORD_LENGTH;
-pub type Bytes = [u8; LENGTH];
-
-/// Each area has room for two frames, so that a wrong length can be lent.
-pub const AREA_LENGTH: usize = 64;
-
-pub const FRAME_AREA: usize = 32;
-pub const BUFFER_AREA: usize = FRAME_AREA + AREA_LENGTH;
-/// A post's record, as the last part of a request or response.
-pub const RECORD: usize = BUFFER_AREA + AREA_LENGTH;
 
 // Places in a record, counted from its start.
 pub const CLOCK: usize = 4;
@@ -28,7 +16,7 @@ pub const LOGGED: usize = LOG + 128;
 /// Number of bytes of a record.
 pub const RECORD_LENGTH: usize = LOGGED + 1;
 
-const _: () = assert!(LENGTH == 1088);
+const _: () = assert!(RECORD_LENGTH == 928);
 
 /// The two bytes at a place as a number.
 pub fn pair(bytes: &[u8], at: usize) -> u16 {

@@ -3,11 +3,13 @@
 
 #![allow(unsafe_code)]
 
+use crate::lent_record::Record;
 use drift_library::raw;
 
 pub use drift_library::FRAME_FIELDS as FIELDS;
 
-/// The functions on frames and scripts, by the static library or by another.
+/// The functions on frames, scripts and single posts, by the static library or by
+/// another.
 ///
 /// What a function only reads is lent as changeable too, so that the compiler
 /// does not assume it unchanged: the caller compares it before and after.
@@ -26,14 +28,26 @@ pub trait Library {
 
     /// Runs a script and writes the state behind it; gives that one's length, or 0.
     fn script_state(&self, script: &mut [u8], air: &mut [u8], state: &mut [u8]) -> usize;
+
+    /// Makes a fresh post by lane, posts, sources and dests: 0, or the refusal.
+    fn post_fresh(&self, post: &mut Record, asked: [u8; 4]) -> u8;
+
+    /// Sends an order; gives refusal, code, count, serial and stamp as one number.
+    fn post_order(&self, post: &mut Record, word: u16, buffer: &mut [u8]) -> u64;
+
+    /// Hears a frame; gives refusal, code and count as one number.
+    fn post_hear(&self, post: &mut Record, frame: &mut [u8], buffer: &mut [u8]) -> u64;
+
+    /// Sends a beacon: 0, or the refusal.
+    fn post_beacon(&self, post: &mut Record, buffer: &mut [u8]) -> u8;
 }
 
 /// The static library of the proved crates.
 pub struct Proved;
 
-// SAFETY, for each call: every pointer goes with the length of its own slice,
-// the slices do not overlap, and no function keeps a pointer once it has
-// returned.
+// SAFETY, for each call: every pointer is that of a whole record or goes with the
+// length of its own slice, nothing overlaps, and no function keeps a pointer once
+// it has returned.
 impl Library for Proved {
     fn frame_check(&self, bytes: &mut [u8]) -> u8 {
         unsafe { raw::drift_frame_check(bytes.as_mut_ptr(), bytes.len()) }
@@ -85,5 +99,30 @@ impl Library for Proved {
                 state.len(),
             )
         }
+    }
+
+    fn post_fresh(&self, post: &mut Record, [lane, posts, sources, dests]: [u8; 4]) -> u8 {
+        unsafe { raw::drift_post_fresh(post, lane, posts, sources, dests) }
+    }
+
+    fn post_order(&self, post: &mut Record, word: u16, buffer: &mut [u8]) -> u64 {
+        unsafe { raw::drift_post_order(post, word, buffer.as_mut_ptr(), buffer.len()) }
+    }
+
+    fn post_hear(&self, post: &mut Record, frame: &mut [u8], buffer: &mut [u8]) -> u64 {
+        unsafe {
+            raw::drift_post_hear(
+                post,
+                frame.as_mut_ptr(),
+                frame.len(),
+                buffer.as_mut_ptr(),
+                buffer.len(),
+            )
+        }
+    }
+
+    fn post_beacon(&self, post: &mut Record, buffer: &mut [u8]) -> u8 {
+        let post: *mut Record = post;
+        unsafe { raw::drift_post_beacon(post, buffer.as_mut_ptr(), buffer.len()) }
     }
 }

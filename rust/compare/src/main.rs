@@ -1,14 +1,13 @@
-//! Compares the proved crates with the second implementation: their static
-//! library on frames and scripts, their program on steps of single posts. Checks
-//! demand 3 on lists of steps run by the static library.
+//! Compares the static libraries of the proved crates with the second
+//! implementation on frames, single posts and scripts. Checks demand 3 on lists of
+//! steps run by the static libraries.
 
 #![deny(unsafe_code)]
 
 mod arguments;
 mod frames;
 mod layout;
-#[cfg(test)]
-mod layout_tests;
+mod lent_record;
 mod library;
 mod lists;
 mod parts;
@@ -18,7 +17,8 @@ mod posts;
 mod random;
 mod report;
 mod request;
-mod runner;
+#[cfg(test)]
+mod request_tests;
 mod scripts;
 mod second;
 mod state;

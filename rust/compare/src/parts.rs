@@ -2,15 +2,9 @@
 
 use crate::arguments::{Part, Task};
 use crate::library::{Library, Proved};
-use crate::runner::Failure;
 use crate::second::Second;
-use crate::{frames, lists, report, runner, scripts};
-use std::env;
+use crate::{frames, lists, posts, report, scripts};
 use std::fmt::Display;
-use std::path::{Path, PathBuf};
-
-/// A program that overrides the one in the repository's `target/bin`.
-const PROGRAM_VARIABLE: &str = "DRIFT_POST_STEPS";
 
 /// A long run tells how far it is each time after so many scripts or lists.
 const SCRIPTS_BETWEEN: u64 = 20_000;
@@ -19,17 +13,24 @@ const LISTS_BETWEEN: u64 = 1_000;
 /// Runs a part; true if nothing differs and everything came.
 pub fn run(task: Task) -> bool {
     match task.part {
-        Part::Frames => compare_frames(task),
-        Part::Posts => compare_posts(task),
-        Part::Scripts => compare_scripts(task),
-        Part::Lists => check_lists(task, &Proved),
-        Part::SecondLists => check_lists(task, &Second),
+        Part::SecondLists => run_by(&Second, task),
+        _ => run_by(&Proved, task),
     }
 }
 
-fn compare_frames(task: Task) -> bool {
+/// Runs a part with this library.
+fn run_by(library: &dyn Library, task: Task) -> bool {
+    match task.part {
+        Part::Frames => compare_frames(library, task),
+        Part::Posts => compare_posts(library, task),
+        Part::Scripts => compare_scripts(library, task),
+        Part::Lists | Part::SecondLists => check_lists(library, task),
+    }
+}
+
+fn compare_frames(library: &dyn Library, task: Task) -> bool {
     let seed = task.seed;
-    match frames::compare(&Proved, seed, task.count) {
+    match frames::compare(library, seed, task.count) {
         Ok(tally) => {
             println!("frames: static library and second implementation agree (seed {seed})");
             print_and_judge(&tally, tally.never_came())
@@ -44,38 +45,27 @@ fn compare_frames(task: Task) -> bool {
     }
 }
 
-fn compare_posts(task: Task) -> bool {
+fn compare_posts(library: &dyn Library, task: Task) -> bool {
     let seed = task.seed;
-    let program = program();
-    if !program.is_file() {
-        eprintln!(
-            "{} is missing: build it, or set {PROGRAM_VARIABLE} to its path",
-            program.display()
-        );
-        return false;
-    }
-    match runner::run(&program, seed, task.count) {
+    match posts::compare(library, seed, task.count) {
         Ok(tally) => {
-            println!("posts: post_steps and second implementation agree (seed {seed})");
+            println!("posts: static library and second implementation agree (seed {seed})");
             print_and_judge(&tally, tally.never_came())
         }
-        Err(Failure::Program(why)) => {
-            eprintln!("{}: {why}", program.display());
-            false
-        }
-        Err(Failure::Difference(difference)) => {
-            let before = difference.number;
-            println!("posts: post_steps differs after {before} requests (seed {seed})");
-            print!("{}", report::describe(&difference));
+        Err(found) => {
+            let function = found.request.step.function();
+            let before = found.number;
+            println!("posts: {function} differs after {before} requests (seed {seed})");
+            print!("{}", report::describe(&found));
             false
         }
     }
 }
 
-fn compare_scripts(task: Task) -> bool {
+fn compare_scripts(library: &dyn Library, task: Task) -> bool {
     let seed = task.seed;
     let progress = |number| tell(task, number, SCRIPTS_BETWEEN, "scripts");
-    match scripts::compare(&Proved, seed, task.first, task.count, progress) {
+    match scripts::compare(library, seed, task.first, task.count, progress) {
         Ok(tally) => {
             println!("scripts: static library and second implementation agree (seed {seed})");
             print_and_judge(&tally, tally.never_came())
@@ -88,13 +78,13 @@ fn compare_scripts(task: Task) -> bool {
                 "{} of {lines} lines; the smallest that shows a difference:",
                 found.place()
             );
-            print!("{}", scripts::smallest(&Proved, found).difference);
+            print!("{}", scripts::smallest(library, found).difference);
             false
         }
     }
 }
 
-fn check_lists(task: Task, library: &dyn Library) -> bool {
+fn check_lists(library: &dyn Library, task: Task) -> bool {
     let seed = task.seed;
     let who = match task.part {
         Part::SecondLists => "second implementation",
@@ -136,12 +126,36 @@ fn print_and_judge(tally: &dyn Display, never: Vec<String>) -> bool {
     never.is_empty()
 }
 
-/// The program that answers step requests, as an absolute path.
-fn program() -> PathBuf {
-    let package = Path::new(env!("CARGO_MANIFEST_DIR"));
-    match env::var_os(PROGRAM_VARIABLE).map(PathBuf::from) {
-        // A bare name is a file in the current folder, not one to be searched for.
-        Some(program) => std::path::absolute(&program).unwrap_or(program),
-        None => package.join("../../target/bin/post_steps"),
+#[cfg(test)]
+mod tests {
+    use super::{run_by, Part, Second, Task};
+    use crate::patched::Patched;
+
+    const TASK: Task = Task {
+        part: Part::Posts,
+        seed: 1,
+        count: 60_000,
+        first: 0,
+    };
+
+    /// Nothing differs and everything comes, or not everything comes.
+    #[test]
+    fn a_right_library_passes_if_enough_is_compared() {
+        assert!(run_by(&Second, TASK));
+        assert!(!run_by(&Second, Task { count: 100, ..TASK }));
+    }
+
+    #[test]
+    fn a_wrong_library_fails_in_each_part() {
+        let wrong = Patched {
+            frame_check: Box::new(|_| 0),
+            run_script: Box::new(|_, _, _| 1),
+            script_state: Box::new(|_, _, _| 0),
+            post_beacon: Box::new(|_, _| 0),
+            ..Patched::default()
+        };
+        for part in [Part::Frames, Part::Posts, Part::Scripts, Part::Lists] {
+            assert!(!run_by(&wrong, Task { part, ..TASK }));
+        }
     }
 }

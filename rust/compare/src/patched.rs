@@ -1,6 +1,7 @@
 //! A library that is wrong on purpose: the second implementation with some of
 //! its functions replaced.
 
+use crate::lent_record::Record;
 use crate::library::Library;
 use crate::second::Second;
 
@@ -8,6 +9,10 @@ type Check = dyn Fn(&mut [u8]) -> u8;
 type Read = dyn Fn(&mut [u8], &mut [u16]) -> u8;
 type Write = dyn Fn(&mut [u16], &mut [u8]) -> u8;
 type Run = dyn Fn(&mut [u8], &mut [u8], &mut [u8]) -> usize;
+type Fresh = dyn Fn(&mut Record, [u8; 4]) -> u8;
+type Order = dyn Fn(&mut Record, u16, &mut [u8]) -> u64;
+type Hear = dyn Fn(&mut Record, &mut [u8], &mut [u8]) -> u64;
+type Beacon = dyn Fn(&mut Record, &mut [u8]) -> u8;
 
 pub struct Patched {
     pub frame_check: Box<Check>,
@@ -15,6 +20,10 @@ pub struct Patched {
     pub frame_write: Box<Write>,
     pub run_script: Box<Run>,
     pub script_state: Box<Run>,
+    pub post_fresh: Box<Fresh>,
+    pub post_order: Box<Order>,
+    pub post_hear: Box<Hear>,
+    pub post_beacon: Box<Beacon>,
 }
 
 impl Default for Patched {
@@ -25,6 +34,10 @@ impl Default for Patched {
             frame_write: Box::new(|fields, buffer| Second.frame_write(fields, buffer)),
             run_script: Box::new(|script, air, output| Second.run_script(script, air, output)),
             script_state: Box::new(|script, air, state| Second.script_state(script, air, state)),
+            post_fresh: Box::new(|post, asked| Second.post_fresh(post, asked)),
+            post_order: Box::new(|post, word, buffer| Second.post_order(post, word, buffer)),
+            post_hear: Box::new(|post, frame, buffer| Second.post_hear(post, frame, buffer)),
+            post_beacon: Box::new(|post, buffer| Second.post_beacon(post, buffer)),
         }
     }
 }
@@ -48,5 +61,21 @@ impl Library for Patched {
 
     fn script_state(&self, script: &mut [u8], air: &mut [u8], state: &mut [u8]) -> usize {
         (self.script_state)(script, air, state)
+    }
+
+    fn post_fresh(&self, post: &mut Record, asked: [u8; 4]) -> u8 {
+        (self.post_fresh)(post, asked)
+    }
+
+    fn post_order(&self, post: &mut Record, word: u16, buffer: &mut [u8]) -> u64 {
+        (self.post_order)(post, word, buffer)
+    }
+
+    fn post_hear(&self, post: &mut Record, frame: &mut [u8], buffer: &mut [u8]) -> u64 {
+        (self.post_hear)(post, frame, buffer)
+    }
+
+    fn post_beacon(&self, post: &mut Record, buffer: &mut [u8]) -> u8 {
+        (self.post_beacon)(post, buffer)
     }
 }

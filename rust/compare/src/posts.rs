@@ -1,14 +1,16 @@
-//! Requests to try single posts with, and the comparison of the responses.
+//! The comparison of a library with the second implementation on single posts.
 
 mod breaks;
+pub mod clauses;
 mod hearings;
 mod history;
 pub mod made_up;
 
 use crate::frames::{self, good_frame};
-use crate::layout::{Bytes, AREA_LENGTH};
+use crate::library::Library;
 use crate::random::Random;
-use crate::request::{answer, Lent, Request, Step};
+use crate::request::{Lent, Ran, Request, Step, AREA_LENGTH};
+use crate::second::Second;
 use crate::tally::Tally;
 use drift_reference::frame::{Frame, FRAME_LENGTH};
 use drift_reference::post::Post;
@@ -16,37 +18,48 @@ use history::History;
 
 const STEPS: [Step; 4] = [Step::Fresh, Step::Order, Step::Hear, Step::Beacon];
 
-/// Lengths next to the right one and at the ends of an area.
-const WRONG_LENGTHS: [u8; 4] = [0, 31, 33, AREA_LENGTH as u8];
+/// Lengths next to the right one and at the ends of an area; 288 and 65,568 are
+/// 32 in their lowest 8 and 16 bits.
+const WRONG_LENGTHS: [usize; 6] = [0, 31, 33, AREA_LENGTH, 288, 65_568];
 
-/// A response that is not the right one.
+/// A request that the two sides did not run alike.
 #[derive(Debug)]
 pub struct Difference {
     /// How many requests came before it.
     pub number: u64,
-    pub request: Bytes,
-    pub reference: Bytes,
-    pub response: Bytes,
+    pub request: Request,
+    pub reference: Ran,
+    pub library: Ran,
 }
 
-/// Compares responses with those of the second implementation, and counts them.
+/// Compares the four steps on `count` requests; stops at the first difference.
+pub fn compare(library: &dyn Library, seed: u64, count: u64) -> Result<Tally, Box<Difference>> {
+    let mut comparison = Comparison::default();
+    for (_, request) in (0..count).zip(Requests::new(seed)) {
+        comparison.compare(&request, request.run(library))?;
+    }
+    Ok(comparison.tally)
+}
+
+/// Compares what a library did with what the second implementation does, and
+/// counts the requests.
 #[derive(Default)]
 pub struct Comparison {
     pub tally: Tally,
 }
 
 impl Comparison {
-    pub fn compare(&mut self, request: &Bytes, response: &Bytes) -> Result<(), Box<Difference>> {
-        let reference = answer(request);
-        if *response != reference {
+    pub fn compare(&mut self, request: &Request, library: Ran) -> Result<(), Box<Difference>> {
+        let reference = request.run(&Second);
+        if library != reference {
             return Err(Box::new(Difference {
                 number: self.tally.total(),
-                request: *request,
+                request: request.clone(),
                 reference,
-                response: *response,
+                library,
             }));
         }
-        self.tally.add(request, &reference);
+        self.tally.add(request, request.outcome(&reference));
         Ok(())
     }
 }
@@ -94,17 +107,15 @@ impl Requests {
 }
 
 impl Iterator for Requests {
-    type Item = Bytes;
+    type Item = Request;
 
-    fn next(&mut self) -> Option<Bytes> {
-        Some(bytes_of(&self.next_request()))
+    fn next(&mut self) -> Option<Request> {
+        let mut request = self.next_request();
+        if request.step == Step::Fresh {
+            lend_another_record(&mut self.random, &mut request);
+        }
+        Some(request)
     }
-}
-
-fn bytes_of(request: &Request) -> Bytes {
-    let [high, low] = request.word.to_be_bytes();
-    let (frame, buffer) = (request.frame.length, request.buffer.length);
-    request.write_with([request.step as u8, high, low, frame, buffer, 0])
 }
 
 /// A request with right lengths; whatever the step does not use is random.
@@ -113,16 +124,32 @@ fn request(random: &mut Random, step: Step, frame: &[u8; FRAME_LENGTH], post: Po
     lent.area[..FRAME_LENGTH].copy_from_slice(frame);
     Request {
         step,
+        asked: lane_and_sets(&post),
         word: random.between_often_an_end(0, u16::MAX),
         frame: lent,
         buffer: random_area(random),
         post,
+        margin: random.byte(),
     }
+}
+
+fn lane_and_sets(post: &Post) -> [u8; 4] {
+    [post.lane, post.posts, post.sources, post.dests]
+}
+
+/// A fresh post is asked for with what stood in the record. The record lent is
+/// another, good or not: it must not matter, and a refusal must leave it.
+fn lend_another_record(random: &mut Random, request: &mut Request) {
+    request.asked = lane_and_sets(&request.post);
+    request.post = match random.one_in(2) {
+        true => made_up::record(random),
+        false => made_up::all_random(random, u8::MAX),
+    };
 }
 
 fn random_area(random: &mut Random) -> Lent {
     Lent {
-        length: FRAME_LENGTH as u8,
+        length: FRAME_LENGTH,
         area: std::array::from_fn(|_| random.byte()),
     }
 }
@@ -143,7 +170,7 @@ fn change_lengths(random: &mut Random, request: &mut Request) {
         if random.one_in(20) {
             lent.length = random.pick(&WRONG_LENGTHS);
         } else if random.one_in(40) {
-            lent.length = random.byte_between(0, AREA_LENGTH as u8);
+            lent.length = random.between(0, AREA_LENGTH as u16).into();
         }
     }
 }

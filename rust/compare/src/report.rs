@@ -1,11 +1,12 @@
-//! A difference between two responses in readable words.
+//! A difference between two sides in readable words.
 
 use crate::layout::{
-    pair, Bytes, BUFFER_AREA, CLOCK, FRAME_AREA, LAST, LOG, LOGGED, RECORD, SERIAL, STAMPS, TABLE,
-    WORDS,
+    pair, write_record, CLOCK, LAST, LOG, LOGGED, RECORD_LENGTH, SERIAL, STAMPS, TABLE, WORDS,
 };
+use crate::lent_record::post_of;
 use crate::posts::Difference;
-use crate::request::{Lent, Request};
+use crate::request::{Lent, Ran, Request, Step};
+use crate::stretch::Stretch;
 use crate::tally::ANSWERS;
 use drift_reference::post::Post;
 use std::fmt::{Display, Write};
@@ -13,47 +14,69 @@ use std::fmt::{Display, Write};
 /// More fields than this that differ are only counted.
 const PRINTED_FIELDS: usize = 24;
 
-/// The request, both responses and the fields in which these differ.
+/// Of what is lent only this many bytes are printed.
+const PRINTED_BYTES: usize = 64;
+
+/// A field's name, and the second implementation's and the library's value of it.
+type Differing = (String, u16, u16);
+
+/// The request, both answers and the fields in which the two sides differ.
 pub fn describe(difference: &Difference) -> String {
-    let request = Request::read(&difference.request);
+    let request = &difference.request;
     let mut text = format!("request {} (counted from 0)\n", difference.number);
     let mut line = |name: &str, value: &dyn Display| {
         text += &format!("{name:<22}{value}\n");
     };
-    line("step", &format!("{:?}", request.step).to_lowercase());
-    line("word", &request.word);
-    line("frame", &lent(&request.frame));
-    line("buffer", &lent(&request.buffer));
+    line("function", &request.step.function());
+    describe_arguments(request, &mut line);
     describe_record(&request.post, &mut line);
-    line("second implementation", &head(&difference.reference));
-    line("program", &head(&difference.response));
-    let fields = differing_fields(&difference.reference, &difference.response, field);
-    for (name, reference, response) in fields.iter().take(PRINTED_FIELDS) {
-        let values = format!("second implementation {reference}, program {response}");
+    let step = request.step;
+    line(
+        "second implementation",
+        &told(step, difference.reference.answer),
+    );
+    line("static library", &told(step, difference.library.answer));
+    let fields = all_differing(&difference.reference, &difference.library);
+    for (name, reference, library) in fields.iter().take(PRINTED_FIELDS) {
+        let values = format!("second implementation {reference}, static library {library}");
         line("differs", &format!("{name}: {values}"));
     }
     if fields.len() > PRINTED_FIELDS {
         let more = fields.len() - PRINTED_FIELDS;
         line("differs", &format!("and {more} fields more"));
     }
-    text += "the request in hexadecimal\n";
-    for row in difference.request.chunks(32) {
-        text += &format!("{}\n", hex(row));
-    }
     text
 }
 
-/// The numbers of a response before its areas.
-fn head(response: &Bytes) -> String {
-    let answer = ANSWERS.get(usize::from(response[0]));
+/// What an answer tells.
+fn told(step: Step, answer: u64) -> String {
+    let [refusal, code, count, serial, ..] = answer.to_le_bytes();
+    if matches!(step, Step::Fresh | Step::Beacon) {
+        return format!("refusal {refusal}");
+    }
+    // The last two answers have no code.
+    let name = ANSWERS[..6].get(usize::from(code));
     format!(
-        "{}, refusal {}, count {}, serial {}, stamp {}",
-        answer.unwrap_or(&"no answer at all"),
-        response[1],
-        response[2],
-        response[3],
-        pair(response, 4)
+        "{}, refusal {refusal}, count {count}, serial {serial}, stamp {}",
+        name.unwrap_or(&"no answer at all"),
+        (answer >> 32) as u16
     )
+}
+
+/// What is handed in beside the record.
+fn describe_arguments(request: &Request, line: &mut impl FnMut(&str, &dyn Display)) {
+    match request.step {
+        Step::Fresh => {
+            let [lane, posts, sources, dests] = request.asked;
+            let sets = format!("posts {posts:08b}, sources {sources:08b}, dests {dests:08b}");
+            line("asked for", &format!("lane {lane}, {sets}"));
+            return;
+        }
+        Step::Order => line("word", &request.word),
+        Step::Hear => line("frame", &lent(&request.frame)),
+        Step::Beacon => {}
+    }
+    line("buffer", &lent(&request.buffer));
 }
 
 fn describe_record(post: &Post, line: &mut impl FnMut(&str, &dyn Display)) {
@@ -94,7 +117,8 @@ fn joined(items: impl Iterator<Item = String>) -> String {
 }
 
 fn lent(lent: &Lent) -> String {
-    format!("({} bytes) {}", lent.length, hex(lent.bytes()))
+    let bytes: Vec<u8> = lent.bytes().take(PRINTED_BYTES).collect();
+    format!("({} bytes) {}", lent.length, hex(&bytes))
 }
 
 pub fn hex(bytes: &[u8]) -> String {
@@ -111,7 +135,7 @@ pub fn differing_fields(
     reference: &[u8],
     response: &[u8],
     field: impl Fn(usize) -> (String, usize),
-) -> Vec<(String, u16, u16)> {
+) -> Vec<Differing> {
     let mut fields = Vec::new();
     let mut at = 0;
     while at < reference.len() {
@@ -128,19 +152,48 @@ pub fn differing_fields(
     fields
 }
 
-/// Name and number of bytes of the field that starts at a byte.
-fn field(at: usize) -> (String, usize) {
-    match at {
-        0 => ("answer".into(), 1),
-        1 => ("refusal".into(), 1),
-        2 => ("count".into(), 1),
-        3 => ("serial of the order".into(), 1),
-        4 => ("stamp of the order".into(), 2),
-        5..FRAME_AREA => (format!("byte {at}, which is 0 in every response"), 1),
-        FRAME_AREA..BUFFER_AREA => (format!("byte {} of the frame's area", at - FRAME_AREA), 1),
-        BUFFER_AREA..RECORD => (format!("byte {} of the buffer's area", at - BUFFER_AREA), 1),
-        _ => record_field(at - RECORD),
-    }
+/// All fields that differ: of the answer, of the record, of what stands beside it,
+/// and of frame and buffer with what stands beside them.
+fn all_differing(reference: &Ran, library: &Ran) -> Vec<Differing> {
+    let [answer, other_answer] = [reference, library].map(|ran| ran.answer.to_le_bytes());
+    let mut fields = differing_fields(&answer, &other_answer, answer_field);
+    let [record, other_record] = [reference, library].map(record_bytes);
+    fields.extend(differing_fields(&record, &other_record, record_field));
+    let [beside, other_beside] = [reference, library].map(|ran| ran.record.margins());
+    let name = |at: usize| (format!("byte {at} beside the record"), 1);
+    fields.extend(differing_fields(&beside, &other_beside, name));
+    fields.extend(differing_lent("frame", &reference.frame, &library.frame));
+    fields.extend(differing_lent("buffer", &reference.buffer, &library.buffer));
+    fields
+}
+
+fn record_bytes(ran: &Ran) -> [u8; RECORD_LENGTH] {
+    let mut bytes = [0; RECORD_LENGTH];
+    write_record(&post_of(&ran.record.record), &mut bytes);
+    bytes
+}
+
+fn differing_lent(what: &str, reference: &Stretch<u8>, library: &Stretch<u8>) -> Vec<Differing> {
+    let of = |at: usize| (format!("byte {at} of the {what}"), 1);
+    let mut fields = differing_fields(reference.numbers(), library.numbers(), of);
+    let [margins, others] = [reference, library].map(|lent| lent.margins().collect::<Vec<u8>>());
+    let beside = |at: usize| (format!("byte {at} beside the {what}"), 1);
+    fields.extend(differing_fields(&margins, &others, beside));
+    fields
+}
+
+/// Name and number of bytes of the field that starts at a byte of an answer.
+fn answer_field(at: usize) -> (String, usize) {
+    let name = match at {
+        0 => "refusal",
+        1 => "code",
+        2 => "count",
+        3 => "serial of the order",
+        4 => "low byte of the order's stamp",
+        5 => "high byte of the order's stamp",
+        _ => return (format!("byte {at} of the answer, which is always 0"), 1),
+    };
+    (name.into(), 1)
 }
 
 /// Name and number of bytes of the field that starts at a byte of a record.

@@ -1,9 +1,12 @@
-//! A request to run one step of a single post, and the right response to it.
+//! A request to run one step of a single post, and how a library runs it.
 
-use crate::layout::{
-    pair, read_record, write_record, Bytes, AREA_LENGTH, BUFFER_AREA, FRAME_AREA, LENGTH, RECORD,
-};
-use drift_reference::post::{HearAnswer, Post};
+use crate::lent_record::{record_of, LentRecord};
+use crate::library::Library;
+use crate::stretch::Stretch;
+use drift_reference::post::Post;
+
+/// Each area has room for two frames.
+pub const AREA_LENGTH: usize = 64;
 
 #[derive(Clone, Copy, Debug, PartialEq, Eq)]
 pub enum Step {
@@ -13,7 +16,7 @@ pub enum Step {
     Beacon,
 }
 
-/// What a response tells in its first byte.
+/// What a step answers; the first six stand for the codes 0 to 5.
 #[derive(Clone, Copy, Debug, PartialEq, Eq)]
 pub enum Answer {
     Refused,
@@ -26,23 +29,48 @@ pub enum Answer {
     FreshMade,
 }
 
-/// An area of which the first bytes are lent; the rest must stay as it is.
-#[derive(Clone, Debug)]
+/// The answers that have a code, by code.
+const CODES: [Answer; 6] = [
+    Answer::Refused,
+    Answer::OrderSent,
+    Answer::Taken,
+    Answer::Again,
+    Answer::Early,
+    Answer::BeaconHeard,
+];
+
+/// An area of which the first bytes are lent; a longer stretch repeats it.
+#[derive(Clone, Debug, PartialEq, Eq)]
 pub struct Lent {
-    pub length: u8,
+    pub length: usize,
     pub area: [u8; AREA_LENGTH],
 }
 
-#[derive(Clone, Debug)]
+#[derive(Clone, Debug, PartialEq, Eq)]
 pub struct Request {
     pub step: Step,
+    /// Lane, posts, sources and dests with which a fresh post is asked for.
+    pub asked: [u8; 4],
     pub word: u16,
     pub frame: Lent,
     pub buffer: Lent,
+    /// The numbers of the record that is lent.
     pub post: Post,
+    /// The byte that stands beside all that is lent.
+    pub margin: u8,
 }
 
-/// The numbers of a response before its areas; 0 where there is none.
+/// What a step answered, and all that was lent, as the step left it.
+#[derive(Clone, Debug, PartialEq, Eq)]
+pub struct Ran {
+    /// As the function gave it: 0 or the refusal, of an order or a hearing more.
+    pub answer: u64,
+    pub record: LentRecord,
+    pub frame: Stretch<u8>,
+    pub buffer: Stretch<u8>,
+}
+
+/// The numbers of an answer; 0 where there is none.
 #[derive(Clone, Copy, Debug, PartialEq, Eq)]
 pub struct Outcome {
     pub answer: Answer,
@@ -50,6 +78,18 @@ pub struct Outcome {
     pub count: u8,
     pub serial: u8,
     pub stamp: u16,
+}
+
+impl Step {
+    /// The name of the function that runs the step.
+    pub fn function(self) -> &'static str {
+        match self {
+            Step::Fresh => "drift_post_fresh",
+            Step::Order => "drift_post_order",
+            Step::Hear => "drift_post_hear",
+            Step::Beacon => "drift_post_beacon",
+        }
+    }
 }
 
 impl Outcome {
@@ -69,110 +109,60 @@ impl Outcome {
             stamp: 0,
         }
     }
+
+    /// As an order or a hearing answers it.
+    pub fn number(self) -> u64 {
+        let bytes = [self.refusal, self.answer as u8, self.count, self.serial];
+        u64::from(u32::from_le_bytes(bytes)) | u64::from(self.stamp) << 32
+    }
+
+    /// What the right answer of a step tells.
+    pub fn read(step: Step, answer: u64) -> Outcome {
+        let [refusal, code, count, serial, ..] = answer.to_le_bytes();
+        let answered = match step {
+            _ if refusal != 0 => Answer::Refused,
+            Step::Fresh => Answer::FreshMade,
+            Step::Beacon => Answer::BeaconSent,
+            Step::Order | Step::Hear => CODES[usize::from(code)],
+        };
+        Outcome {
+            answer: answered,
+            refusal,
+            count,
+            serial,
+            stamp: (answer >> 32) as u16,
+        }
+    }
 }
 
 impl Lent {
-    fn read(bytes: &Bytes, start: usize, length: u8) -> Lent {
-        let mut area = [0; AREA_LENGTH];
-        area.copy_from_slice(&bytes[start..start + AREA_LENGTH]);
-        Lent { length, area }
-    }
-
-    pub fn bytes(&self) -> &[u8] {
-        &self.area[..usize::from(self.length)]
-    }
-
-    pub fn bytes_mut(&mut self) -> &mut [u8] {
-        &mut self.area[..usize::from(self.length)]
+    pub fn bytes(&self) -> impl Iterator<Item = u8> + '_ {
+        self.area.iter().copied().cycle().take(self.length)
     }
 }
 
 impl Request {
-    pub fn read(bytes: &Bytes) -> Request {
-        let step = match bytes[0] {
-            0 => Step::Fresh,
-            1 => Step::Order,
-            2 => Step::Hear,
-            3 => Step::Beacon,
-            number => panic!("there is no step {number}"),
+    /// Runs the step by a library on copies of all that is lent.
+    pub fn run(&self, library: &dyn Library) -> Ran {
+        let lent = |lent: &Lent| Stretch::new(lent.bytes(), self.margin);
+        let mut ran = Ran {
+            answer: 0,
+            record: LentRecord::new(record_of(&self.post), self.margin),
+            frame: lent(&self.frame),
+            buffer: lent(&self.buffer),
         };
-        Request {
-            step,
-            word: pair(bytes, 1),
-            frame: Lent::read(bytes, FRAME_AREA, bytes[3]),
-            buffer: Lent::read(bytes, BUFFER_AREA, bytes[4]),
-            post: read_record(&bytes[RECORD..]),
-        }
+        let (post, buffer) = (&mut ran.record.record, ran.buffer.lent());
+        ran.answer = match self.step {
+            Step::Fresh => library.post_fresh(post, self.asked).into(),
+            Step::Order => library.post_order(post, self.word, buffer),
+            Step::Hear => library.post_hear(post, ran.frame.lent(), buffer),
+            Step::Beacon => library.post_beacon(post, buffer).into(),
+        };
+        ran
     }
 
-    /// Areas and record as they stand now, after a head of six numbers.
-    pub fn write_with(&self, head: [u8; 6]) -> Bytes {
-        let mut bytes = [0; LENGTH];
-        bytes[..6].copy_from_slice(&head);
-        bytes[FRAME_AREA..BUFFER_AREA].copy_from_slice(&self.frame.area);
-        bytes[BUFFER_AREA..RECORD].copy_from_slice(&self.buffer.area);
-        write_record(&self.post, &mut bytes[RECORD..]);
-        bytes
+    /// What the right answer tells.
+    pub fn outcome(&self, right: &Ran) -> Outcome {
+        Outcome::read(self.step, right.answer)
     }
-
-    /// The response with this outcome; areas and record are as the step left them.
-    pub fn response(&self, outcome: Outcome) -> Bytes {
-        let [high, low] = outcome.stamp.to_be_bytes();
-        let mut bytes = self.write_with([
-            outcome.answer as u8,
-            outcome.refusal,
-            outcome.count,
-            outcome.serial,
-            high,
-            low,
-        ]);
-        if self.step == Step::Fresh && outcome.answer == Answer::Refused {
-            bytes[RECORD..].fill(0);
-        }
-        bytes
-    }
-
-    /// Runs the step by the second implementation on buffer and post.
-    pub fn run(&mut self) -> Outcome {
-        match self.step {
-            Step::Fresh => self.make_fresh(),
-            Step::Order => match self.post.order(self.word, self.buffer.bytes_mut()) {
-                Err(number) => Outcome::refused(number),
-                Ok(sent) => Outcome {
-                    serial: sent.serial.0,
-                    stamp: sent.stamp.0,
-                    ..Outcome::of(Answer::OrderSent, sent.count)
-                },
-            },
-            Step::Hear => match self.post.hear(self.frame.bytes(), self.buffer.bytes_mut()) {
-                Err(number) => Outcome::refused(number),
-                Ok(HearAnswer::Taken(count)) => Outcome::of(Answer::Taken, count),
-                Ok(HearAnswer::Again(count)) => Outcome::of(Answer::Again, count),
-                Ok(HearAnswer::Early(count)) => Outcome::of(Answer::Early, count),
-                Ok(HearAnswer::Beacon(count)) => Outcome::of(Answer::BeaconHeard, count),
-            },
-            Step::Beacon => match self.post.beacon(self.buffer.bytes_mut()) {
-                Err(number) => Outcome::refused(number),
-                Ok(()) => Outcome::of(Answer::BeaconSent, 0),
-            },
-        }
-    }
-
-    fn make_fresh(&mut self) -> Outcome {
-        let asked = &self.post;
-        match Post::fresh(asked.lane, asked.posts, asked.sources, asked.dests) {
-            Err(number) => Outcome::refused(number),
-            Ok(post) => {
-                self.post = post;
-                Outcome::of(Answer::FreshMade, 0)
-            }
-        }
-    }
-}
-
-/// The right response to a request.
-pub fn answer(request: &Bytes) -> Bytes {
-    let mut request = Request::read(request);
-    let outcome = request.run();
-    request.response(outcome)
 }

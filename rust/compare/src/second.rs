@@ -1,8 +1,11 @@
 //! The second implementation in the shape of the static library.
 
+use crate::lent_record::{post_of, record_of, Record};
 use crate::library::{Library, FIELDS};
+use crate::request::{Answer, Outcome};
 use crate::state::{write_state, STATE_LENGTH};
 use drift_reference::frame::{check, Frame, NOT_32_BYTES};
+use drift_reference::post::{HearAnswer, OrderAnswer, Post};
 use drift_reference::script;
 
 /// The second implementation.
@@ -48,6 +51,51 @@ impl Library for Second {
                 STATE_LENGTH
             }
         }
+    }
+
+    fn post_fresh(&self, post: &mut Record, [lane, posts, sources, dests]: [u8; 4]) -> u8 {
+        match Post::fresh(lane, posts, sources, dests) {
+            Err(number) => number,
+            Ok(fresh) => {
+                *post = record_of(&fresh);
+                0
+            }
+        }
+    }
+
+    fn post_order(&self, post: &mut Record, word: u16, buffer: &mut [u8]) -> u64 {
+        let mut own = post_of(post);
+        let answer = own.order(word, buffer);
+        *post = record_of(&own);
+        answer.map_or_else(Outcome::refused, sent).number()
+    }
+
+    fn post_hear(&self, post: &mut Record, frame: &mut [u8], buffer: &mut [u8]) -> u64 {
+        let mut own = post_of(post);
+        let answer = own.hear(frame, buffer);
+        *post = record_of(&own);
+        answer.map_or_else(Outcome::refused, heard).number()
+    }
+
+    fn post_beacon(&self, post: &mut Record, buffer: &mut [u8]) -> u8 {
+        post_of(post).beacon(buffer).err().unwrap_or(0)
+    }
+}
+
+fn sent(answer: OrderAnswer) -> Outcome {
+    Outcome {
+        serial: answer.serial.0,
+        stamp: answer.stamp.0,
+        ..Outcome::of(Answer::OrderSent, answer.count)
+    }
+}
+
+fn heard(answer: HearAnswer) -> Outcome {
+    match answer {
+        HearAnswer::Taken(count) => Outcome::of(Answer::Taken, count),
+        HearAnswer::Again(count) => Outcome::of(Answer::Again, count),
+        HearAnswer::Early(count) => Outcome::of(Answer::Early, count),
+        HearAnswer::Beacon(count) => Outcome::of(Answer::BeaconHeard, count),
     }
 }
 

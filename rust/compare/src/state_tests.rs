@@ -1,6 +1,5 @@
 //! Tests of the bytes of a state, laid out here by hand.
 
-use crate::layout_tests::heard;
 use crate::library::Library;
 use crate::second::Second;
 use crate::state::{state_field, Answer, Answered, State, STATE_LENGTH};
@@ -17,11 +16,29 @@ fn state_after(script: &str) -> Vec<u8> {
     state
 }
 
+/// The record of post 0, which has just heard the order of post 1.
+fn first_record() -> [u8; 928] {
+    let mut record = [0; 928];
+    let mut put = |at: usize, values: &[u8]| record[at..at + values.len()].copy_from_slice(values);
+    // Lane, posts, sources, dests, clock, own serial, last taken.
+    put(0, &[0, 0b111, 0b011, 0b101, 0, 4, 1, 1, 1]);
+    // Table, stamps and words of the orders (0, 1) and (1, 1).
+    put(15 + 2, &[0, 4]);
+    put(15 + 36, &[0, 3]);
+    put(287, &[0, 1]);
+    put(287 + 32, &[0, 3]);
+    put(543, &[1, 161]);
+    put(543 + 32, &[0, 90]);
+    // The log and its length.
+    put(799, &[0, 16]);
+    put(927, &[2]);
+    record
+}
+
 #[test]
 fn a_state_is_written_byte_for_byte() {
     let state = state_after(SCRIPT);
-    // Post 0 has just heard the order of post 1, as in the test of a response.
-    assert_eq!(state[..928], heard()[160..]);
+    assert_eq!(state[..928], first_record());
     // Post 1: clock 3, own serial 1, last taken 1 of lanes 0 and 1.
     assert_eq!(state[928..928 + 10], [1, 7, 3, 5, 0, 3, 1, 1, 1, 0]);
     // Post 2 has logged the order of lane 0.

@@ -37,6 +37,14 @@ impl<T: Copy + Debug> Stretch<T> {
         let after = &rest[rest.len() - MARGIN..];
         before.iter().chain(after).copied()
     }
+
+    /// The margins, to be changed.
+    #[cfg(test)]
+    pub fn margins_mut(&mut self) -> impl Iterator<Item = &mut T> {
+        let (before, rest) = self.row.split_at_mut(MARGIN);
+        let lent = rest.len() - MARGIN;
+        before.iter_mut().chain(&mut rest[lent..])
+    }
 }
 
 #[cfg(test)]

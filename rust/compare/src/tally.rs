@@ -1,7 +1,8 @@
-//! How often each step, answer and refusal came.
+//! How often each step, answer and refusal came, and each clause of refusal 12.
 
-use crate::layout::Bytes;
-use crate::request::{Answer, Step};
+use crate::posts::clauses::{broken_alone, judged_record, CLAUSES, ENDS};
+use crate::request::{Answer, Outcome, Request, Step};
+use drift_reference::post::BAD_RECORD;
 use std::fmt;
 
 /// Each step with its name and the answers and refusals that it can give.
@@ -27,7 +28,7 @@ const POSSIBLE: [(Step, &str, &[Answer], &[u8]); 4] = [
     (Step::Beacon, "beacon", &[Answer::BeaconSent], &[6, 12, 21]),
 ];
 
-/// Names of the answers, by the number in a response.
+/// Names of the answers.
 pub const ANSWERS: [&str; 8] = [
     "refused",
     "order sent",
@@ -42,6 +43,9 @@ pub const ANSWERS: [&str; 8] = [
 /// One more than the highest refusal number.
 const REFUSALS: usize = 31;
 
+/// Width of the names; that of a clause is the longest.
+const NAME: usize = 44;
+
 /// Counts by step, and in each by answer and by refusal number.
 #[derive(Debug, Default)]
 pub struct Tally {
@@ -49,37 +53,112 @@ pub struct Tally {
     refusals: [[u64; REFUSALS]; 4],
     /// Steps that delivered at least one order.
     delivering: [u64; 4],
+    /// Refusals by 12 where a record breaks one clause alone.
+    clauses: [[u64; CLAUSES.len()]; 4],
+    /// The same, where a range is broken by its least bad number.
+    least_bad: [[u64; ENDS.len()]; 4],
+    /// Records that passed 12 with the largest good number of a range.
+    largest_good: [[u64; ENDS.len()]; 4],
 }
 
 impl Tally {
-    /// Counts a request with the right response to it.
-    pub fn add(&mut self, request: &Bytes, response: &Bytes) {
-        let step = usize::from(request[0]);
-        self.answers[step][usize::from(response[0])] += 1;
-        self.refusals[step][usize::from(response[1])] += 1;
-        self.delivering[step] += u64::from(response[2] > 0);
+    /// Counts a request with the right outcome of it.
+    pub fn add(&mut self, request: &Request, outcome: Outcome) {
+        let step = request.step as usize;
+        self.answers[step][outcome.answer as usize] += 1;
+        self.refusals[step][usize::from(outcome.refusal)] += 1;
+        self.delivering[step] += u64::from(outcome.count > 0);
+        match outcome.refusal {
+            BAD_RECORD => self.add_clause(request),
+            // Refused before the record was judged.
+            1..BAD_RECORD => {}
+            _ => self.add_passed(request),
+        }
+    }
+
+    fn add_clause(&mut self, request: &Request) {
+        let step = request.step as usize;
+        let post = judged_record(request);
+        let Some(clause) = broken_alone(&post) else {
+            return;
+        };
+        self.clauses[step][clause] += 1;
+        for (count, end) in self.least_bad[step].iter_mut().zip(ENDS) {
+            let (_, is_least) = end.least_bad;
+            *count += u64::from(end.clause == clause && is_least(&post));
+        }
+    }
+
+    fn add_passed(&mut self, request: &Request) {
+        let post = judged_record(request);
+        let counts = &mut self.largest_good[request.step as usize];
+        for (count, end) in counts.iter_mut().zip(ENDS) {
+            let (_, is_largest) = end.largest_good;
+            *count += u64::from(is_largest(&post));
+        }
     }
 
     pub fn total(&self) -> u64 {
         self.answers.iter().flatten().sum()
     }
 
-    /// The answers and refusals that a step can give but never gave.
+    /// The rows of the table: a name, and a count for each step that can have one.
+    fn rows(&self) -> Vec<(String, [Option<u64>; 4])> {
+        let mut rows = Vec::new();
+        for (answer, name) in ANSWERS.iter().enumerate().skip(1) {
+            let counts = POSSIBLE.map(|(step, _, answers, _)| {
+                let is_possible = answers.iter().any(|&possible| possible as usize == answer);
+                is_possible.then_some(self.answers[step as usize][answer])
+            });
+            rows.push((name.to_string(), counts));
+        }
+        let delivering = POSSIBLE.map(|(step, ..)| {
+            let is_possible = matches!(step, Step::Order | Step::Hear);
+            is_possible.then_some(self.delivering[step as usize])
+        });
+        rows.push(("a delivery".into(), delivering));
+        for number in 1..REFUSALS as u8 {
+            let counts = POSSIBLE.map(|(step, _, _, refusals)| {
+                let is_possible = refusals.contains(&number);
+                is_possible.then_some(self.refusals[step as usize][usize::from(number)])
+            });
+            rows.push((format!("refused by {number}"), counts));
+        }
+        rows.extend(self.clause_rows());
+        rows.retain(|(_, counts)| *counts != [None; 4]);
+        rows
+    }
+
+    fn clause_rows(&self) -> Vec<(String, [Option<u64>; 4])> {
+        let row = |name: String, clause: usize, count: &dyn Fn(usize) -> u64| {
+            let counts = POSSIBLE.map(|(step, ..)| {
+                let is_judged = CLAUSES[clause].is_judged_at(step);
+                is_judged.then(|| count(step as usize))
+            });
+            (name, counts)
+        };
+        let mut rows = Vec::new();
+        for (index, clause) in CLAUSES.iter().enumerate() {
+            let name = format!("12, only: {}", clause.name);
+            rows.push(row(name, index, &|step| self.clauses[step][index]));
+        }
+        for (index, end) in ENDS.iter().enumerate() {
+            let (bad, good) = (end.least_bad.0, end.largest_good.0);
+            let least_bad = |step: usize| self.least_bad[step][index];
+            rows.push(row(format!("12, only: {bad}"), end.clause, &least_bad));
+            let largest_good = |step: usize| self.largest_good[step][index];
+            rows.push(row(format!("not 12: {good}"), end.clause, &largest_good));
+        }
+        rows
+    }
+
+    /// What a step can give but never gave.
     pub fn never_came(&self) -> Vec<String> {
         let mut never = Vec::new();
-        for (step, name, answers, refusals) in POSSIBLE {
-            if matches!(step, Step::Order | Step::Hear) && self.delivering[step as usize] == 0 {
-                never.push(format!("{name}: a delivery"));
-            }
-            let step = step as usize;
-            for &answer in answers {
-                if self.answers[step][answer as usize] == 0 {
-                    never.push(format!("{name}: {}", ANSWERS[answer as usize]));
-                }
-            }
-            for &number in refusals {
-                if self.refusals[step][usize::from(number)] == 0 {
-                    never.push(format!("{name}: refused by {number}"));
+        for (what, counts) in self.rows() {
+            for ((_, step, ..), count) in POSSIBLE.iter().zip(counts) {
+                if count == Some(0) {
+                    never.push(format!("{step}: {what}"));
                 }
             }
         }
@@ -89,37 +168,22 @@ impl Tally {
 
 impl fmt::Display for Tally {
     fn fmt(&self, output: &mut fmt::Formatter) -> fmt::Result {
-        write!(output, "{:<14}", "requests")?;
+        write!(output, "{:<NAME$}", "requests")?;
         for (_, name, ..) in POSSIBLE {
             write!(output, "{name:>10}")?;
         }
         writeln!(output, "{:>10}", "all")?;
-        for (answer, name) in ANSWERS.iter().enumerate().skip(1) {
-            let counts = POSSIBLE.map(|(step, _, answers, _)| {
-                let is_possible = answers.iter().any(|&possible| possible as usize == answer);
-                is_possible.then_some(self.answers[step as usize][answer])
-            });
-            write_row(output, name, counts)?;
-        }
-        for number in 1..REFUSALS as u8 {
-            let counts = POSSIBLE.map(|(step, _, _, refusals)| {
-                let is_possible = refusals.contains(&number);
-                is_possible.then_some(self.refusals[step as usize][usize::from(number)])
-            });
-            write_row(output, &format!("refused by {number}"), counts)?;
+        for (name, counts) in self.rows() {
+            write_row(output, &name, counts)?;
         }
         let sums = self.answers.map(|counts| Some(counts.iter().sum()));
-        write_row(output, "all", sums)?;
-        write_row(output, "delivering", self.delivering.map(Some))
+        write_row(output, "all", sums)
     }
 }
 
-/// A count for each step that can have one, and their sum; no row without any.
+/// A count for each step that can have one, and their sum.
 fn write_row(output: &mut fmt::Formatter, name: &str, counts: [Option<u64>; 4]) -> fmt::Result {
-    if counts == [None; 4] {
-        return Ok(());
-    }
-    write!(output, "{name:<14}")?;
+    write!(output, "{name:<NAME$}")?;
     for count in counts {
         match count {
             None => write!(output, "{:>10}", ".")?,

@@ -1,6 +1,12 @@
 //! The exported functions of the proved crates, for programs in Rust. What each
 //! asks and answers stands in `c/drift.h`.
 
+mod post;
+
+pub use post::{Heard, Order, Post, Sent};
+
+/// Number of bytes in a frame, and in the buffer for one.
+pub const FRAME_LENGTH: usize = 32;
 /// Number of fields of a frame: kind, sender, lane, serial, stamp, word, then
 /// for lanes 0 to 7 serial and stamp.
 pub const FRAME_FIELDS: usize = 22;
@@ -12,8 +18,11 @@ pub const OUTPUT_LENGTH: usize = 131_072;
 pub const STATE_LENGTH: usize = 7_692;
 
 /// The functions as they are in the static libraries. Every pointer goes with
-/// the number of elements that it points to; what is lent does not overlap.
+/// the number of elements that it points to, but for that to a post's record;
+/// what is lent does not overlap.
 pub mod raw {
+    use super::Post;
+
     extern "C" {
         pub fn drift_frame_check(bytes: *const u8, length: usize) -> u8;
 
@@ -48,6 +57,26 @@ pub mod raw {
             state: *mut u8,
             state_length: usize,
         ) -> usize;
+
+        pub fn drift_post_fresh(post: *mut Post, lane: u8, posts: u8, sources: u8, dests: u8)
+            -> u8;
+
+        pub fn drift_post_order(
+            post: *mut Post,
+            word: u16,
+            buffer: *mut u8,
+            buffer_length: usize,
+        ) -> u64;
+
+        pub fn drift_post_hear(
+            post: *mut Post,
+            frame: *const u8,
+            frame_length: usize,
+            buffer: *mut u8,
+            buffer_length: usize,
+        ) -> u64;
+
+        pub fn drift_post_beacon(post: *const Post, buffer: *mut u8, buffer_length: usize) -> u8;
     }
 }
 

@@ -1,7 +1,8 @@
 //! Scripts as they are put together. The second implementation runs each step of
 //! a draft at once, so that the numbers of the frames are known.
 
-use drift_reference::frame::LAST_SERIAL;
+use drift_reference::frame::{FRAME_LENGTH, LAST_SERIAL};
+use drift_reference::post::Post;
 use drift_reference::script::run_to_yard;
 use drift_reference::yard::{Yard, AIR_LENGTH};
 
@@ -79,5 +80,17 @@ impl Draft {
     pub fn first_frame(&self, lane: usize) -> usize {
         let place = usize::from(LAST_SERIAL.0) * lane;
         self.yard.first[place].into()
+    }
+
+    /// The post of a lane as it is now.
+    pub fn post(&self, lane: usize) -> Post {
+        self.yard.posts[lane].clone()
+    }
+
+    /// The bytes of a frame on the air.
+    pub fn frame(&self, number: usize) -> [u8; FRAME_LENGTH] {
+        let start = FRAME_LENGTH * number;
+        let bytes = &self.air[start..start + FRAME_LENGTH];
+        bytes.try_into().expect("a frame's bytes")
     }
 }

@@ -6,8 +6,10 @@ use super::{Job, Row};
 use crate::work::Work;
 use drift_reference::script::SCRIPT_LIMIT;
 
+type Maker = fn() -> Job;
+
 pub fn rows() -> Vec<Row> {
-    let jobs: [(&str, fn() -> Job); 10] = [
+    let jobs: [(&str, Maker); 10] = [
         ("roll call: document 01's yard, first, 10 steps", || {
             one_more_roll(document_orders().text, 0)
         }),

@@ -8,15 +8,15 @@ use super::{Job, Row};
 use crate::work::Work;
 
 /// The measured lines where they do not change what the next one does.
-const LINES: usize = 64;
+pub(super) const LINES: usize = 64;
 /// Orders of lane 0 that are sent to be taken by measured lines; it has sent one.
-const FRESH_ORDERS: usize = 15;
+pub(super) const FRESH_ORDERS: usize = 15;
 /// The counted calls.
-const CALLS: u64 = 4;
+pub(super) const CALLS: u64 = 4;
 
 /// The yards that the lines are measured in.
 #[derive(Clone, Copy)]
-enum Size {
+pub(super) enum Size {
     /// Document 01's yard: three posts, two orders.
     Small,
     /// Eight posts, all of them both; 64 orders.
@@ -46,7 +46,8 @@ const STEPS: [(&str, Maker); 9] = [
     ("hear, refused by 26 (and printed)", own_broadcast),
 ];
 
-const SIZES: [(&str, Size); 2] = [("small yard", Size::Small), ("large yard", Size::Large)];
+pub(super) const SIZES: [(&str, Size); 2] =
+    [("small yard", Size::Small), ("large yard", Size::Large)];
 
 pub fn rows() -> Vec<Row> {
     let mut rows = Vec::new();
@@ -93,7 +94,7 @@ impl Lines {
 }
 
 impl Size {
-    fn posts(self) -> usize {
+    pub(super) fn posts(self) -> usize {
         match self {
             Size::Small => 3,
             Size::Large => 8,
@@ -108,7 +109,7 @@ impl Size {
     }
 
     /// The yard in which every order has been taken and logged.
-    fn settled(self) -> Draft {
+    pub(super) fn settled(self) -> Draft {
         let mut draft = match self {
             Size::Small => document_orders(),
             Size::Large => large_orders(),
@@ -118,9 +119,21 @@ impl Size {
     }
 
     /// A settled yard, with further orders of lane 0: their frames.
-    fn with_fresh_orders(self, count: usize) -> (Draft, Vec<usize>) {
+    pub(super) fn with_fresh_orders(self, count: usize) -> (Draft, Vec<usize>) {
         let mut draft = self.settled();
         let frames = (0..count).map(|n| draft.order(0, 20_000 + n)).collect();
+        (draft, frames)
+    }
+
+    /// A settled yard in which further orders of lane 0 have gone from post to
+    /// post: the frames for the last one, which have the entries of all sources.
+    pub(super) fn with_passed_orders(self) -> (Draft, Vec<usize>) {
+        let (mut draft, mut frames) = self.with_fresh_orders(FRESH_ORDERS);
+        for frame in &mut frames {
+            for post in 1..self.posts() - 1 {
+                *frame = draft.hear(post, *frame);
+            }
+        }
         (draft, frames)
     }
 }
@@ -172,19 +185,13 @@ fn taken_and_kept(size: Size) -> Lines {
     lines
 }
 
-/// Each order of lane 0 goes from post to post. The last post hears it with the
-/// entries of all sources, so that it is ready at once.
+/// The last post hears each order of lane 0 with the entries of all sources, so
+/// that it is ready at once.
 fn taken_and_delivered(size: Size) -> Lines {
-    let (mut draft, mut frames) = size.with_fresh_orders(FRESH_ORDERS);
-    let last = size.posts() - 1;
-    for frame in &mut frames {
-        for post in 1..last {
-            *frame = draft.hear(post, *frame);
-        }
-    }
+    let (draft, frames) = size.with_passed_orders();
     let mut lines = Lines::measured(draft);
     for frame in frames {
-        lines.draft.hear(last, frame);
+        lines.draft.hear(size.posts() - 1, frame);
     }
     lines
 }

@@ -2,8 +2,10 @@
 //! are ones that a post can reach.
 
 use super::{made_up, request};
+use crate::lent_record::post_of;
 use crate::random::Random;
 use crate::request::{Answer, Request, Step};
+use crate::second::Second;
 use drift_reference::frame::{Stamp, FRAME_LENGTH, ORDER};
 use drift_reference::post::Post;
 
@@ -72,39 +74,30 @@ impl History {
             return self.make_fresh(random, post);
         }
         let request = self.proposal(random);
-        let mut done = request.clone();
-        let answer = done.run().answer;
+        let done = request.run(&Second);
+        let answer = request.outcome(&done).answer;
         if answer != Answer::Refused {
-            let post = self
-                .posts
-                .iter_mut()
-                .find(|post| post.lane == done.post.lane);
-            *post.expect("the post of the proposal") = done.post;
+            let mut posts = self.posts.iter_mut();
+            let post = posts.find(|post| post.lane == request.post.lane);
+            *post.expect("the post of the proposal") = post_of(&done.record.record);
         }
         if matches!(
             answer,
             Answer::OrderSent | Answer::Taken | Answer::BeaconSent
         ) {
-            let broadcast = done.buffer.bytes().try_into();
+            let broadcast = done.buffer.numbers().try_into();
             self.air.push(broadcast.expect("a broadcast is a frame"));
         }
         request
     }
 
     fn make_fresh(&mut self, random: &mut Random, asked: Post) -> Request {
-        // What a fresh post does not look at is random.
-        let post = Post {
-            lane: asked.lane,
-            posts: asked.posts,
-            sources: asked.sources,
-            dests: asked.dests,
-            ..made_up::all_random(random, 255)
-        };
-        let request = request(random, Step::Fresh, &[0; FRAME_LENGTH], post);
-        let mut done = request.clone();
-        if done.run().answer == Answer::FreshMade {
-            done.post.clock = self.start;
-            self.posts.push(done.post);
+        let request = request(random, Step::Fresh, &[0; FRAME_LENGTH], asked);
+        let done = request.run(&Second);
+        if request.outcome(&done).answer == Answer::FreshMade {
+            let mut post = post_of(&done.record.record);
+            post.clock = self.start;
+            self.posts.push(post);
         }
         request
     }

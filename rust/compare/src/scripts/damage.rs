@@ -11,8 +11,8 @@ const BYTES: &[u8] = b"()  \n\n0123456789abdehloprstuyYR\t\r\0\x0B-+.,[]\x7F\x80
 type Damage = fn(&mut Random, &mut Vec<u8>);
 
 const DAMAGES: [Damage; 17] = [
-    change_byte,
-    change_byte,
+    |random, script| change_byte(random, script),
+    |random, script| change_byte(random, script),
     delete_byte,
     insert_byte,
     delete_stretch,
@@ -50,7 +50,7 @@ fn any_byte(random: &mut Random) -> u8 {
     }
 }
 
-fn change_byte(random: &mut Random, script: &mut Vec<u8>) {
+fn change_byte(random: &mut Random, script: &mut [u8]) {
     let at = below(random, script.len());
     if let Some(byte) = script.get_mut(at) {
         *byte = any_byte(random);

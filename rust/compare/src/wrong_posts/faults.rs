@@ -3,7 +3,7 @@
 /// Makes the type of the faults and the list of those without numbers.
 macro_rules! faults {
     ($($fault:ident,)*) => {
-        /// One fault of a program, or none.
+        /// One fault of a library, or none.
         #[derive(Clone, Copy, Debug, PartialEq, Eq)]
         pub enum Wrong {
             Nothing,
@@ -11,6 +11,10 @@ macro_rules! faults {
             Before(u8, u8),
             /// Does not look at this clause of refusal 12.
             Clause(usize),
+            /// Takes the least bad number of this range of refusal 12 for good.
+            RangeTooLong(usize),
+            /// Takes the largest good number of this range for bad.
+            RangeTooShort(usize),
             $($fault,)*
         }
 

@@ -2,59 +2,11 @@
 //! they can be weakened and put into another order.
 
 use super::faults::Wrong;
-use crate::request::{Request, Step};
+use super::steps::Asked;
+use crate::posts::clauses::{CLAUSES, ENDS};
+use crate::request::Step;
 use drift_reference::frame::{Entry, Frame, Serial, Stamp, FRAME_LENGTH, ORDER};
 use drift_reference::post::Post;
-
-/// A name, and whether a record breaks the clause.
-type Clause = (&'static str, fn(&Post) -> bool);
-
-/// The clauses of refusal 12.
-pub const CLAUSES: [Clause; 13] = [
-    ("lane", |post| post.lane > 7),
-    ("own serial or last taken", |post| {
-        post.serial.0 > 16 || post.last.iter().any(|&last| last > 16)
-    }),
-    ("length of the log", |post| post.logged > 128),
-    ("place in the log", |post| {
-        used(post).iter().any(|&place| place > 127)
-    }),
-    ("source without a post", |post| {
-        post.sources & !post.posts != 0
-    }),
-    ("dest without a post", |post| post.dests & !post.posts != 0),
-    ("own serial is not the last taken", |post| {
-        post.lane < 8 && post.serial.0 != post.last[usize::from(post.lane)]
-    }),
-    ("order missing", |post| {
-        (0..128).any(|place| is_taken(post, place) && post.stamps[place] == 0)
-    }),
-    ("stamp beyond", |post| {
-        (0..128).any(|place| !is_taken(post, place) && post.stamps[place] != 0)
-    }),
-    ("word beyond", |post| {
-        (0..128).any(|place| !is_taken(post, place) && post.words[place] != 0)
-    }),
-    ("log repeats", |post| {
-        let log = used(post);
-        (1..log.len()).any(|index| log[..index].contains(&log[index]))
-    }),
-    ("log has one not taken", |post| {
-        let is_not_taken = |&place: &u8| place < 128 && !is_taken(post, place.into());
-        used(post).iter().any(is_not_taken)
-    }),
-    ("unused place of the log", |post| {
-        post.log[used(post).len()..].iter().any(|&place| place != 0)
-    }),
-];
-
-fn used(post: &Post) -> &[u8] {
-    &post.log[..usize::from(post.logged.min(128))]
-}
-
-pub fn is_taken(post: &Post, place: usize) -> bool {
-    place % 16 < usize::from(post.last[place / 16])
-}
 
 pub fn has(set: u8, lane: u8) -> bool {
     lane < 8 && set & 1 << lane != 0
@@ -71,13 +23,13 @@ pub fn numbers(step: Step) -> &'static [u8] {
 }
 
 /// The refusal that wins, if any holds.
-pub fn refusal(wrong: Wrong, request: &Request) -> Option<u8> {
-    let judged = |number: &u8| judge(wrong, *number, request);
-    let first = numbers(request.step)
+pub fn refusal(wrong: Wrong, asked: &Asked) -> Option<u8> {
+    let judged = |number: &u8| judge(wrong, *number, asked);
+    let first = numbers(asked.step)
         .iter()
         .find(|number| judged(number).is_some())?;
     match wrong {
-        Wrong::Before(late, early) if early == *first && numbers(request.step).contains(&late) => {
+        Wrong::Before(late, early) if early == *first && numbers(asked.step).contains(&late) => {
             judged(&late).or(judged(first))
         }
         _ => judged(first),
@@ -85,27 +37,25 @@ pub fn refusal(wrong: Wrong, request: &Request) -> Option<u8> {
 }
 
 /// The number to refuse by if the condition of this one holds.
-fn judge(wrong: Wrong, number: u8, request: &Request) -> Option<u8> {
-    let post = &request.post;
-    let is_hearing = request.step == Step::Hear;
+fn judge(wrong: Wrong, number: u8, asked: &Asked) -> Option<u8> {
+    let post = &asked.post;
+    let is_hearing = asked.step == Step::Hear;
     let holds = match number {
         6 => {
             let is_judged = wrong != Wrong::UnusedBufferUnjudged || !is_hearing;
-            is_judged && request.buffer.bytes().len() != FRAME_LENGTH
-                || is_hearing && request.frame.bytes().len() != FRAME_LENGTH
+            is_judged && asked.buffer.len() != FRAME_LENGTH
+                || is_hearing && asked.frame.len() != FRAME_LENGTH
         }
-        7 => match Frame::read(request.frame.bytes()) {
+        7 => match Frame::read(asked.frame) {
             Err(number) if number > 6 => return Some(number),
             _ => false,
         },
-        12 => (0..).zip(CLAUSES).any(|(index, (_, is_broken))| {
-            wrong != Wrong::Clause(index) && request_breaks(request, is_broken)
-        }),
+        12 => is_bad_record(wrong, post),
         21 => !has(post.posts, post.lane),
         22 => !has(post.sources, post.lane),
         23 => post.serial.0 >= 16,
         24 if !is_hearing => post.clock.0 == 65_535,
-        _ => match request.frame.bytes().try_into() {
+        _ => match asked.frame.try_into() {
             Ok(bytes) => judge_frame(wrong, number, post, &fields(bytes)),
             Err(_) => false,
         },
@@ -113,17 +63,20 @@ fn judge(wrong: Wrong, number: u8, request: &Request) -> Option<u8> {
     holds.then_some(number)
 }
 
-/// A fresh post is judged as its record would be: all zero but lane and sets.
-fn request_breaks(request: &Request, is_broken: fn(&Post) -> bool) -> bool {
-    let post = &request.post;
-    if request.step != Step::Fresh {
-        return is_broken(post);
-    }
-    let [lane, posts, sources, dests] = [post.lane, post.posts, post.sources, post.dests];
-    let mut fresh = Post::fresh(0, 1, 0, 0).expect("a yard of one post");
-    (fresh.lane, fresh.posts) = (lane, posts);
-    (fresh.sources, fresh.dests) = (sources, dests);
-    is_broken(&fresh)
+fn is_bad_record(wrong: Wrong, post: &Post) -> bool {
+    let left_out = match wrong {
+        Wrong::Clause(clause) => Some(clause),
+        Wrong::RangeTooLong(end) => {
+            let (_, is_least_bad) = ENDS[end].least_bad;
+            is_least_bad(post).then_some(ENDS[end].clause)
+        }
+        Wrong::RangeTooShort(end) if (ENDS[end].largest_good.1)(post) => return true,
+        _ => None,
+    };
+    let judged = (0..CLAUSES.len()).filter(|&clause| Some(clause) != left_out);
+    judged
+        .into_iter()
+        .any(|clause| (CLAUSES[clause].is_broken)(post))
 }
 
 /// The fields of a frame, readable or not.

@@ -3,46 +3,107 @@
 use super::delivery::deliver;
 use super::faults::Wrong;
 use super::refusals::{has, refusal};
-use crate::layout::Bytes;
-use crate::request::{Answer, Outcome, Request, Step};
+use crate::lent_record::{post_of, record_of, Record};
+use crate::patched::Patched;
+use crate::posts::clauses::fresh_record;
+use crate::request::{Answer, Outcome, Step};
 use drift_reference::frame::{Entry, Frame, Serial, Stamp, BEACON, LANES, ORDER};
 use drift_reference::post::Post;
 
-/// The response of a program with this fault.
-pub fn answer(wrong: Wrong, request: &Bytes) -> Bytes {
-    let mut request = Request::read(request);
-    let outcome = match refusal(wrong, &request) {
-        Some(number) => Outcome::refused(number),
-        // What a step does where it should be refused does not matter.
-        None if refusal(Wrong::Nothing, &request).is_some() => Outcome::of(Answer::Again, 255),
-        None => run(wrong, &mut request),
-    };
-    request.response(outcome)
+/// A step that is asked for; what it does not use is empty. The post of a fresh
+/// one is the one to be.
+pub struct Asked<'a> {
+    pub step: Step,
+    pub post: Post,
+    pub word: u16,
+    pub frame: &'a [u8],
+    pub buffer: &'a mut [u8],
 }
 
-fn run(wrong: Wrong, request: &mut Request) -> Outcome {
-    match request.step {
-        Step::Fresh => request.run(),
-        Step::Order => order(wrong, request),
-        Step::Hear => hear(wrong, request),
+/// A library whose four steps have this fault.
+pub fn library(wrong: Wrong) -> Patched {
+    Patched {
+        post_fresh: Box::new(move |record, asked| {
+            let fresh = Asked::new(Step::Fresh, fresh_record(asked), &mut []);
+            answer(wrong, fresh, record).refusal
+        }),
+        post_order: Box::new(move |record, word, buffer| {
+            let order = Asked::new(Step::Order, post_of(record), buffer);
+            answer(wrong, Asked { word, ..order }, record).number()
+        }),
+        post_hear: Box::new(move |record, frame, buffer| {
+            let hear = Asked::new(Step::Hear, post_of(record), buffer);
+            answer(wrong, Asked { frame, ..hear }, record).number()
+        }),
+        post_beacon: Box::new(move |record, buffer| {
+            let beacon = Asked::new(Step::Beacon, post_of(record), buffer);
+            answer(wrong, beacon, record).refusal
+        }),
+        ..Patched::default()
+    }
+}
+
+/// A library of which only this step has the fault.
+pub fn library_with(step: Step, wrong: Wrong) -> Patched {
+    let (faulty, mut right) = (library(wrong), Patched::default());
+    match step {
+        Step::Fresh => right.post_fresh = faulty.post_fresh,
+        Step::Order => right.post_order = faulty.post_order,
+        Step::Hear => right.post_hear = faulty.post_hear,
+        Step::Beacon => right.post_beacon = faulty.post_beacon,
+    }
+    right
+}
+
+impl Asked<'_> {
+    fn new(step: Step, post: Post, buffer: &mut [u8]) -> Asked<'_> {
+        Asked {
+            step,
+            post,
+            word: 0,
+            frame: &[],
+            buffer,
+        }
+    }
+}
+
+/// Runs the step and brings the record up to date.
+fn answer(wrong: Wrong, mut asked: Asked, record: &mut Record) -> Outcome {
+    if let Some(number) = refusal(wrong, &asked) {
+        return Outcome::refused(number);
+    }
+    if refusal(Wrong::Nothing, &asked).is_some() {
+        // What a step does where it should be refused does not matter.
+        return Outcome::of(Answer::Again, 255);
+    }
+    let outcome = run(wrong, &mut asked);
+    *record = record_of(&asked.post);
+    outcome
+}
+
+fn run(wrong: Wrong, asked: &mut Asked) -> Outcome {
+    match asked.step {
+        Step::Fresh => Outcome::of(Answer::FreshMade, 0),
+        Step::Order => order(wrong, asked),
+        Step::Hear => hear(wrong, asked),
         Step::Beacon => {
             let frame = Frame {
                 kind: BEACON,
-                sender: request.post.lane,
+                sender: asked.post.lane,
                 lane: 0,
                 serial: Serial(0),
                 stamp: Stamp(0),
                 word: 0,
-                entries: newest(wrong, &request.post),
+                entries: newest(wrong, &asked.post),
             };
-            broadcast(&frame, request);
+            broadcast(&frame, asked);
             Outcome::of(Answer::BeaconSent, 0)
         }
     }
 }
 
-fn order(wrong: Wrong, request: &mut Request) -> Outcome {
-    let post = &mut request.post;
+fn order(wrong: Wrong, asked: &mut Asked) -> Outcome {
+    let post = &mut asked.post;
     post.clock.0 += 1;
     post.serial.0 += 1;
     let (lane, serial, stamp) = (post.lane, post.serial, post.clock);
@@ -58,16 +119,16 @@ fn order(wrong: Wrong, request: &mut Request) -> Outcome {
         lane,
         serial,
         stamp,
-        word: request.word,
+        word: asked.word,
         entries: [Entry::NONE; LANES],
     };
     keep(wrong, post, &frame);
     post.last[usize::from(lane)] = serial.0;
     frame.entries = newest(wrong, post);
-    broadcast(&frame, request);
+    broadcast(&frame, asked);
     let count = match wrong {
         Wrong::OrderDoesNotDeliver => 0,
-        _ => deliver(wrong, &mut request.post),
+        _ => deliver(wrong, &mut asked.post),
     };
     Outcome {
         serial: serial.0,
@@ -76,9 +137,9 @@ fn order(wrong: Wrong, request: &mut Request) -> Outcome {
     }
 }
 
-fn hear(wrong: Wrong, request: &mut Request) -> Outcome {
-    let frame = Frame::read(request.frame.bytes()).expect("it is not refused");
-    let post = &mut request.post;
+fn hear(wrong: Wrong, asked: &mut Asked) -> Outcome {
+    let frame = Frame::read(asked.frame).expect("it is not refused");
+    let post = &mut asked.post;
     let old = newest(wrong, post);
     let last = post.last[usize::from(frame.lane)];
     let answer = match frame.serial.0 {
@@ -96,9 +157,9 @@ fn hear(wrong: Wrong, request: &mut Request) -> Outcome {
     }
     move_clock(wrong, post, &frame, answer);
     if answer == Answer::Taken || answer == Answer::Again && wrong == Wrong::BroadcastOnAgain {
-        pass_on(wrong, request, frame, old);
+        pass_on(wrong, asked, frame, old);
     }
-    let post = &mut request.post;
+    let post = &mut asked.post;
     let mut count = match wrong {
         Wrong::DeliversOnlyWhenTaken if answer != Answer::Taken => 0,
         _ => deliver(wrong, post),
@@ -142,16 +203,16 @@ fn keep(wrong: Wrong, post: &mut Post, frame: &Frame) {
 }
 
 /// Broadcasts the order under the own lane; `old` is what was known before.
-fn pass_on(wrong: Wrong, request: &mut Request, mut frame: Frame, old: [Entry; LANES]) {
+fn pass_on(wrong: Wrong, asked: &mut Asked, mut frame: Frame, old: [Entry; LANES]) {
     if wrong != Wrong::SenderStays {
-        frame.sender = request.post.lane;
+        frame.sender = asked.post.lane;
     }
     match wrong {
         Wrong::BroadcastOfOldTable => frame.entries = old,
         Wrong::FramePassedOn => {}
-        _ => frame.entries = newest(wrong, &request.post),
+        _ => frame.entries = newest(wrong, &asked.post),
     }
-    broadcast(&frame, request);
+    broadcast(&frame, asked);
 }
 
 fn move_clock(wrong: Wrong, post: &mut Post, frame: &Frame, answer: Answer) {
@@ -181,10 +242,8 @@ fn move_clock(wrong: Wrong, post: &mut Post, frame: &Frame, answer: Answer) {
     };
 }
 
-fn broadcast(frame: &Frame, request: &mut Request) {
-    frame
-        .write(request.buffer.bytes_mut())
-        .expect("a good frame");
+fn broadcast(frame: &Frame, asked: &mut Asked) {
+    frame.write(asked.buffer).expect("a good frame");
 }
 
 fn newest(wrong: Wrong, post: &Post) -> [Entry; LANES] {

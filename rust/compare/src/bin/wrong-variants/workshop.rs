@@ -37,7 +37,6 @@ pub struct Workshop {
     original: PathBuf,
     copy: PathBuf,
     library: PathBuf,
-    program: PathBuf,
 }
 
 /// How a part of the comparison went.
@@ -70,12 +69,10 @@ impl Workshop {
             fs::write(copy.join(file), fs::read(original.join(file))?)?;
         }
         fs::write(copy.join("Cargo.toml"), MANIFEST)?;
-        let built = compare.join("../../target");
-        let library = env::var_os("DRIFT_STATICLIB").map(|folder| compare.join(folder));
-        let program = env::var_os("DRIFT_POST_STEPS").map(std::path::absolute);
+        let folder = env::var_os("DRIFT_STATICLIB").map(PathBuf::from);
+        let folder = folder.unwrap_or("../../target/staticlib".into());
         Ok(Workshop {
-            library: library.unwrap_or(built.join("staticlib")).canonicalize()?,
-            program: program.unwrap_or(Ok(built.join("bin/post_steps")))?,
+            library: compare.join(folder).canonicalize()?,
             original,
             copy,
         })
@@ -129,7 +126,6 @@ impl Workshop {
         let (_, count) = known.ok_or(format!("there is no part `{part}`"))?;
         let mut child = Command::new(self.copy.join("target/wrong-variants/drift-compare"))
             .args([part, SEED, count])
-            .env("DRIFT_POST_STEPS", &self.program)
             .stdout(Stdio::piped())
             .spawn()
             .map_err(|error| format!("{part}: it does not start: {error}"))?;
@@ -179,8 +175,8 @@ mod tests {
         let noticed = |words: &str| Some(Told::Noticed(words.into()));
         let lines = [
             (
-                "posts: post_steps differs after 3 requests (seed 1)",
-                noticed("posts: post_steps differs after 3 requests"),
+                "posts: drift_post_hear differs after 3 requests (seed 1)",
+                noticed("posts: drift_post_hear differs after 3 requests"),
             ),
             (
                 "lists: demand 3 fails after 0 lists (seed 1) for the second implementation",

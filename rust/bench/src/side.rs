@@ -1,6 +1,7 @@
 //! The two sides that are measured, in the same shape.
 
 use drift_library as library;
+use drift_records::record_of;
 use drift_reference::frame::{check, Frame, NOT_32_BYTES};
 use drift_reference::post::{HearAnswer, Post};
 use drift_reference::script;
@@ -107,24 +108,6 @@ fn refused(number: u8) -> usize {
 /// An answer with the count delivered.
 pub const fn answered(code: usize, count: u8) -> usize {
     code << 8 | (count as usize) << 16
-}
-
-/// The record that is lent for a post of the second implementation.
-fn record_of(post: &Post) -> library::Post {
-    library::Post {
-        lane: post.lane,
-        posts: post.posts,
-        sources: post.sources,
-        dests: post.dests,
-        clock: post.clock.0,
-        serial: post.serial.0,
-        logged: post.logged,
-        last: post.last,
-        table: post.table,
-        stamps: post.stamps,
-        words: post.words,
-        log: post.log,
-    }
 }
 
 /// Reads a frame into its 22 fields: 0, or the refusal.

@@ -1,10 +1,6 @@
-//! A post's record as it is lent to the library, and the same record as the
-//! second implementation has it.
+//! A post's record as it is lent to the library, with numbers beside it.
 
-use drift_reference::frame::{Serial, Stamp};
-use drift_reference::post::Post;
-
-pub use drift_library::Post as Record;
+pub use drift_records::{post_of, record_of, Record};
 
 /// Numbers on either side: an odd count, so that the address of the record is
 /// even and no more, as nothing more is promised of it.
@@ -41,41 +37,5 @@ impl LentRecord {
     #[cfg(test)]
     pub fn margins_mut(&mut self) -> impl Iterator<Item = &mut u16> {
         self.before.iter_mut().chain(&mut self.after)
-    }
-}
-
-/// The record that is lent for a post of the second implementation.
-pub fn record_of(post: &Post) -> Record {
-    Record {
-        lane: post.lane,
-        posts: post.posts,
-        sources: post.sources,
-        dests: post.dests,
-        clock: post.clock.0,
-        serial: post.serial.0,
-        logged: post.logged,
-        last: post.last,
-        table: post.table,
-        stamps: post.stamps,
-        words: post.words,
-        log: post.log,
-    }
-}
-
-/// The post of the second implementation that has the numbers of a record.
-pub fn post_of(record: &Record) -> Post {
-    Post {
-        lane: record.lane,
-        posts: record.posts,
-        sources: record.sources,
-        dests: record.dests,
-        clock: Stamp(record.clock),
-        serial: Serial(record.serial),
-        last: record.last,
-        table: record.table,
-        stamps: record.stamps,
-        words: record.words,
-        log: record.log,
-        logged: record.logged,
     }
 }

@@ -23,7 +23,7 @@ const PARTS: [(&str, &str); 4] = [
 const MANIFEST: &str = "\
 [workspace]
 resolver = \"2\"
-members = [\"library\", \"reference\", \"compare\"]
+members = [\"library\", \"reference\", \"records\", \"compare\"]
 
 [profile.wrong-variants]
 inherits = \"dev\"
@@ -53,7 +53,7 @@ impl Workshop {
         let compare = Path::new(env!("CARGO_MANIFEST_DIR"));
         let original = compare.join("..").canonicalize()?;
         let copy = original.join("target/wrong-variants");
-        for package in ["library", "reference", "compare"] {
+        for package in ["library", "reference", "records", "compare"] {
             let old = copy.join(package);
             if old.exists() {
                 fs::remove_dir_all(&old)?;
@@ -64,6 +64,7 @@ impl Workshop {
             "library/Cargo.toml",
             "library/build.rs",
             "reference/Cargo.toml",
+            "records/Cargo.toml",
             "compare/Cargo.toml",
         ] {
             fs::write(copy.join(file), fs::read(original.join(file))?)?;

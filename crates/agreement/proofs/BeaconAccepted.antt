@@ -34,7 +34,7 @@ module _ (present sources dests : ℕ) where
     beacon-is-done = beacon-done w lane here (s .whole) inside left room can-beacon
 
     pub beacon-view : yardView (single w (beacon lane)) ≡ model.beaconDone R (yardView w) lane
-    beacon-view = ap yardView (beacon-is-done .world) ∙ λ t. record {
+    beacon-view = ap yardView (beacon-is-done .leaves) ∙ λ t. record {
       posts = yardView w .posts;
       air = (air-spoken (w .air) (w .yard .frames) (beaconFrame (postAt (w .yard) lane)) (s .whole) room can-beacon
           ∙ ap (upd (yardView w .air) (w .yard .frames))
@@ -46,7 +46,7 @@ module _ (present sources dests : ℕ) where
     }
 
     pub beacon-sound : Sound present sources dests (single w (beacon lane))
-    beacon-sound = rw (beacon-is-done .world) (record {
+    beacon-sound = rw (beacon-is-done .leaves) (record {
       itsPresent = s .itsPresent;
       itsSources = s .itsSources;
       eight = s .eight;

@@ -19,19 +19,19 @@ use Rattle.agreement.proofs.AirViews.{spoken-frames}
 -- a beacon that leaves the world as it was, answering its refusal
 pub record BeaconStays (w : World) (lane number : ℕ) : Type 0 where
   pub answer : yardBeacons (w .air) (w .yard) lane .answer ≡ beaconing.the-variants.Refused number
-  pub world : single w (beacon lane) ≡ w
+  pub leaves : single w (beacon lane) ≡ w
 
 -- 4
 pub beacon-4 : (w : World) (lane : ℕ) → 8 ≤ lane → BeaconStays w lane 4
 unfolding single yardBeacons yardBeaconsAir
-beacon-4 w lane l = record { answer = rw (le-ltb lane 8 l); world = rw (le-ltb lane 8 l) }
+beacon-4 w lane l = record { answer = rw (le-ltb lane 8 l); leaves = rw (le-ltb lane 8 l) }
 
 -- 13
 pub beacon-13 : (w : World) (lane : ℕ) → lane < 8 → length (w .air) ≢ 65536 → BeaconStays w lane 13
 unfolding single yardBeacons yardBeaconsAir postBeacons postBeaconsAir
 beacon-13 w lane l n = record {
   answer = rw (lt-ltb lane 8 l, ne-eqb (length (w .air)) 65536 n);
-  world = rw (lt-ltb lane 8 l, ne-eqb (length (w .air)) 65536 n);
+  leaves = rw (lt-ltb lane 8 l, ne-eqb (length (w .air)) 65536 n);
 }
 
 -- 21
@@ -41,7 +41,7 @@ pub beacon-21 : (w : World) (lane : ℕ) → lane < 8 → length (w .air) ≡ 65
 unfolding single yardBeacons yardBeaconsAir postBeacons postBeaconsAir
 beacon-21 w lane l e i = record {
   answer = rw (lt-ltb lane 8 l, eq-eqb (length (w .air)) 65536 e, i);
-  world = rw (lt-ltb lane 8 l, eq-eqb (length (w .air)) 65536 e, i);
+  leaves = rw (lt-ltb lane 8 l, eq-eqb (length (w .air)) 65536 e, i);
 }
 
 -- 27
@@ -51,13 +51,13 @@ pub beacon-27 : (w : World) (lane : ℕ) → lane < 8 → length (w .air) ≡ 65
 unfolding single yardBeacons yardBeaconsAir postBeacons postBeaconsAir
 beacon-27 w lane l e i h = record {
   answer = rw (lt-ltb lane 8 l, eq-eqb (length (w .air)) 65536 e, i, le-leb 1024 (w .yard .beacons) h);
-  world = rw (lt-ltb lane 8 l, eq-eqb (length (w .air)) 65536 e, i, le-leb 1024 (w .yard .beacons) h);
+  leaves = rw (lt-ltb lane 8 l, eq-eqb (length (w .air)) 65536 e, i, le-leb 1024 (w .yard .beacons) h);
 }
 
 -- a beacon that is sent
 pub record BeaconDone (w : World) (lane : ℕ) : Type 0 where
   pub answer : yardBeacons (w .air) (w .yard) lane .answer ≡ beaconing.the-variants.Sent
-  pub world : single w (beacon lane) ≡ record {
+  pub leaves : single w (beacon lane) ≡ record {
     yard = withBeacons (w .yard) (w .yard .frames + 1) (w .yard .beacons + 1);
     air = airWith (w .air) (w .yard .frames) (beaconFrame (postAt (w .yard) lane));
   }
@@ -69,7 +69,7 @@ pub beacon-done : (w : World) (lane : ℕ) → lane < 8 → length (w .air) ≡ 
 unfolding single yardBeacons yardBeaconsAir postBeacons postBeaconsAir beaconStep
 beacon-done w lane l e i h r s = record {
   answer = rw (lt-ltb lane 8 l, eq-eqb (length (w .air)) 65536 e, i, lt-leb 1024 (w .yard .beacons) h);
-  world = rw (
+  leaves = rw (
     lt-ltb lane 8 l,
     eq-eqb (length (w .air)) 65536 e,
     i,

@@ -24,7 +24,7 @@ use Rattle.agreement.proofs.AirViews.{silent-air, silent-frames, spoken
 -- a hearing that leaves the world as it was, answering its refusal
 pub record HearStays (w : World) (lane k number : ℕ) : Type 0 where
   pub answer : yardHears (w .air) (w .yard) lane k .answer ≡ hearings.the-variants.Refused number
-  pub world : single w (hear lane k) ≡ w
+  pub leaves : single w (hear lane k) ≡ w
 
 -- a post that answers a refusal, stays and speaks nothing leaves the yard
 hear-stays : (w : World) (lane k number : ℕ) → lane < 8
@@ -35,13 +35,13 @@ hear-stays : (w : World) (lane k number : ℕ) → lane < 8
 unfolding single yardHears yardHearsAir
 hear-stays w lane k number l e a = record {
   answer = rw (lt-ltb lane 8 l, e);
-  world = rw (lt-ltb lane 8 l, e, a, set-getD);
+  leaves = rw (lt-ltb lane 8 l, e, a, set-getD);
 }
 
 -- 4
 pub hear-4 : (w : World) (lane k : ℕ) → 8 ≤ lane → HearStays w lane k 4
 unfolding single yardHears yardHearsAir
-hear-4 w lane k l = record { answer = rw (le-ltb lane 8 l); world = rw (le-ltb lane 8 l) }
+hear-4 w lane k l = record { answer = rw (le-ltb lane 8 l); leaves = rw (le-ltb lane 8 l) }
 
 -- 13
 pub hear-13 : (w : World) (lane k : ℕ) → lane < 8 → length (w .air) ≢ 65536 → HearStays w lane k 13

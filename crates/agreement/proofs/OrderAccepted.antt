@@ -8,7 +8,7 @@ use lib.ListN.{length-set}
 use Rattle.air.proofs.Stretches.{length-stays}
 use Rattle.cells.specs.Tables.{orderPlace}
 use Rattle.post.specs.declared.Post as posts
-use Rattle.post.specs.Taking.{ordered}
+use Rattle.post.specs.Taking.{ownTaken}
 use Rattle.steps.specs.Refusals.{orderRefusal}
 use Rattle.steps.specs.Steps.{orderStep}
 use Rattle.yard.specs.Yards.{postAt}
@@ -37,7 +37,7 @@ sentOrder word lane serial stamp = record { lane = lane; serial = serial; stamp 
 -- the order that an order step carries
 order-carried : (P : model.Post) (lane word : ℕ)
     → _≡_ {A = Order} (record { lane = lane; serial = suc (P .own); stamp = suc (P .clock); word = word })
-    (model.orderOf (model.ordered lane word P) lane (suc (P .own)))
+    (model.orderOf (model.ownTaken lane word P) lane (suc (P .own)))
 order-carried P lane word = rw (upd2-same (P .stamps) lane (suc (P .own)) (suc (P .clock)), upd2-same (P .words) lane (suc (P .own)) word)
 
 module _ (present sources dests : ℕ) where
@@ -51,7 +51,7 @@ module _ (present sources dests : ℕ) where
     p = postAt (w .yard) lane
 
     abbrev q : posts.Post
-    q = ordered p word
+    q = ownTaken p word
 
     inYard : InYard present sources dests lane p
     inYard = s .post lane here
@@ -63,10 +63,10 @@ module _ (present sources dests : ℕ) where
     order-is-done = order-done w lane word here small (s .whole) room z can-send
 
     -- the post just before delivery
-    view-q : postView q ≡ model.ordered lane word (postView p)
+    view-q : postView q ≡ model.ownTaken lane word (postView p)
     view-q =
         view-ordered p word (inYard .shaped) (inYard .valid) (orderable p z .serial)
-        ∙ ap (λ (i : ℕ). model.ordered i word (postView p)) (inYard .itsLane)
+        ∙ ap (λ (i : ℕ). model.ownTaken i word (postView p)) (inYard .itsLane)
 
     q-in-yard : InYard present sources dests lane q
     q-in-yard =
@@ -83,11 +83,11 @@ module _ (present sources dests : ℕ) where
     rises : KeptRise (postView q)
     rises =
         subst KeptRise (sym view-q)
-        (rose-before present sources dests (model.orderDone R (yardView w) lane word) lane (model.ordered lane word (postView p)) after
-        (upd-same (yardView w .posts) lane (model.deliver R lane (model.ordered lane word (postView p)))))
+        (rose-before present sources dests (model.orderDone R (yardView w) lane word) lane (model.ownTaken lane word (postView p)) after
+        (upd-same (yardView w .posts) lane (model.deliver R lane (model.ownTaken lane word (postView p)))))
 
     -- the post after it
-    view-post : postView (orderStep p word .post) ≡ model.deliver R lane (model.ordered lane word (postView p))
+    view-post : postView (orderStep p word .post) ≡ model.deliver R lane (model.ownTaken lane word (postView p))
     view-post = ap postView (order-post p word z) ∙ delivers present sources dests lane q q-in-yard rises ∙ ap (model.deliver R lane) view-q
 
     -- the order that it carries
@@ -96,17 +96,17 @@ module _ (present sources dests : ℕ) where
 
     -- its broadcast
     view-frame : frameView (orderStep p word .frame)
-        ≡ model.entriesFrame false lane (model.orderOf (model.ordered lane word (postView p)) lane (suc (postView p .own))) (model.ordered lane word (postView p))
+        ≡ model.entriesFrame false lane (model.orderOf (model.ownTaken lane word (postView p)) lane (suc (postView p .own))) (model.ownTaken lane word (postView p))
     view-frame =
         ap frameView (order-frame p word z)
         ∙ view-order-frame q (p .lane) (p .serial .0 + 1) (p .clock .0 + 1) word (q-in-yard .shaped)
         ∙ ap (λ (i : ℕ). model.entriesFrame false i (sentOrder word (p .lane) (p .serial .0 + 1) (p .clock .0 + 1)) (postView q)) (q-in-yard .itsLane)
         ∙ ap (λ (o : Order). model.entriesFrame false lane o (postView q)) (carried ∙ order-carried (postView p) lane word)
-        ∙ ap (model.entriesFrame false lane (model.orderOf (model.ordered lane word (postView p)) lane (suc (postView p .own)))) view-q
+        ∙ ap (model.entriesFrame false lane (model.orderOf (model.ownTaken lane word (postView p)) lane (suc (postView p .own)))) view-q
 
     -- the yard after it
     pub order-view : yardView (single w (order lane word)) ≡ model.orderDone R (yardView w) lane word
-    order-view = ap yardView (order-is-done .world) ∙ λ t. record {
+    order-view = ap yardView (order-is-done .leaves) ∙ λ t. record {
       posts = (posts-view (w .yard .posts) lane (orderStep p word .post) (s .eight) here ∙ ap (upd (yardView w .posts) lane) view-post) t;
       air = (air-spoken (w .air) (w .yard .frames) (orderStep p word .frame) (s .whole) room can-send
           ∙ ap (upd (yardView w .air) (w .yard .frames)) view-frame) t;
@@ -117,7 +117,7 @@ module _ (present sources dests : ℕ) where
     }
 
     pub order-sound : Sound present sources dests (single w (order lane word))
-    order-sound = rw (order-is-done .world) (record {
+    order-sound = rw (order-is-done .leaves) (record {
       itsPresent = s .itsPresent;
       itsSources = s .itsSources;
       eight = length-set (w .yard .posts) lane (orderStep p word .post) ∙ s .eight;

@@ -7,7 +7,7 @@ use native.Mathlib.Numerals.{add-one}
 use lib.ListN.{length}
 use borrow.Author.Tests.{lt-ltb, le-ltb, eq-eqb}
 use Rattle.post.specs.declared.Post as posts
-use Rattle.post.specs.Taking.{kept, ticked, ordered}
+use Rattle.post.specs.Taking.{kept, ticked, ownTaken}
 use Rattle.deliver.specs.Delivery.{delivered}
 use Rattle.steps.specs.Refusals.{orderRefusal}
 use Rattle.steps.specs.Steps.{orderSent, orderStep}
@@ -29,8 +29,8 @@ use Rattle.agreement.proofs.Simulates.{Fit, Simulates, order-refused-sa
 -- what an order that is sent answers
 order-answer : (p : posts.Post) (word : ℕ) → orderRefusal p ≡ 0
     → (count : ℕ) × (orderStep p word .answer ≡ orders.the-variants.Sent (record { 0 = p .serial .0 + 1 }) (record { 0 = p .clock .0 + 1 }) count)
-unfolding orderStep orderSent ordered kept ticked
-order-answer p word z = (delivered (ordered p word) .count, rw z)
+unfolding orderStep orderSent ownTaken kept ticked
+order-answer p word z = (delivered (ownTaken p word) .count, rw z)
 
 module _ (present sources dests : ℕ) where
   abbrev R : model.Roles

@@ -10,7 +10,7 @@ use Rattle.frame.specs.declared.Frame.{Frame}
 use Rattle.air.specs.Air.{airWith}
 use Rattle.cells.specs.Tables.{orderPlace}
 use Rattle.post.specs.declared.Post.{Post}
-use Rattle.post.specs.Taking.{kept, ticked, ordered}
+use Rattle.post.specs.Taking.{kept, ticked, ownTaken}
 use Rattle.steps.specs.Refusals.{orderRefusal}
 use Rattle.steps.specs.Steps.{orderStep}
 use Rattle.steps.specs.declared.OrderAnswer as orders
@@ -25,7 +25,7 @@ use Rattle.agreement.proofs.AirViews.{silent-air, silent-frames, spoken
 -- an order that leaves the world as it was, answering its refusal
 pub record OrderStays (w : World) (lane word number : ℕ) : Type 0 where
   pub answer : yardOrders (w .air) (w .yard) lane word .answer ≡ orders.the-variants.Refused number
-  pub world : single w (order lane word) ≡ w
+  pub leaves : single w (order lane word) ≡ w
 
 -- a post that answers a refusal, stays and speaks nothing leaves the yard
 order-stays : (w : World) (lane word number : ℕ) → lane < 8
@@ -36,13 +36,13 @@ order-stays : (w : World) (lane word number : ℕ) → lane < 8
 unfolding single yardOrders yardOrdersAir firstAfter
 order-stays w lane word number l e a = record {
   answer = rw (lt-ltb lane 8 l, e);
-  world = rw (lt-ltb lane 8 l, e, a, le-ltb (w .yard .frames) (w .yard .frames) (omega arith), set-getD);
+  leaves = rw (lt-ltb lane 8 l, e, a, le-ltb (w .yard .frames) (w .yard .frames) (omega arith), set-getD);
 }
 
 -- 4
 pub order-4 : (w : World) (lane word : ℕ) → 8 ≤ lane → OrderStays w lane word 4
 unfolding single yardOrders yardOrdersAir
-order-4 w lane word l = record { answer = rw (le-ltb lane 8 l); world = rw (le-ltb lane 8 l) }
+order-4 w lane word l = record { answer = rw (le-ltb lane 8 l); leaves = rw (le-ltb lane 8 l) }
 
 -- 5
 pub order-5 : (w : World) (lane word : ℕ) → lane < 8 → 65535 < word → OrderStays w lane word 5
@@ -84,17 +84,17 @@ orderedWorld w lane q f serial = record {
 -- an order that is sent
 pub record OrderDone (w : World) (lane word : ℕ) : Type 0 where
   pub answer : yardOrders (w .air) (w .yard) lane word .answer ≡ orderStep (postAt (w .yard) lane) word .answer
-  pub world : single w (order lane word)
+  pub leaves : single w (order lane word)
       ≡ orderedWorld w lane (orderStep (postAt (w .yard) lane) word .post) (orderStep (postAt (w .yard) lane) word .frame)
       (postAt (w .yard) lane .serial .0 + 1)
 
 -- its post has the next own serial
 order-serial : (p : Post) (word : ℕ) → orderRefusal p ≡ 0 → orderStep p word .post .serial .0 ≡ p .serial .0 + 1
 order-serial p word z =
-    ap (λ (q : Post). q .serial .0) (order-post p word z ∙ delivered-log-only (ordered p word)) ∙ own
+    ap (λ (q : Post). q .serial .0) (order-post p word z ∙ delivered-log-only (ownTaken p word)) ∙ own
   where
-    own : ordered p word .serial .0 ≡ p .serial .0 + 1
-    own = unfold ordered kept ticked in refl
+    own : ownTaken p word .serial .0 ≡ p .serial .0 + 1
+    own = unfold ownTaken kept ticked in refl
 
 order-posts : (w : World) (lane word : ℕ) → word ≤ 65535 → length (w .air) ≡ 65536 → w .yard .frames < 2048
     → Sendable (orderStep (postAt (w .yard) lane) word .frame)
@@ -124,7 +124,7 @@ pub order-done : (w : World) (lane word : ℕ) → lane < 8 → word ≤ 65535 �
 unfolding single yardOrders yardOrdersAir firstAfter
 order-done w lane word l b e r z s = record {
   answer = rw (lt-ltb lane 8 l, order-posts w lane word b e r s);
-  world = rw (
+  leaves = rw (
     lt-ltb lane 8 l,
     order-posts w lane word b e r s,
     order-airs w lane word b e,

@@ -16,7 +16,7 @@ use Rattle.cells.specs.Tables.{orderPlace, withStamp}
 use Rattle.post.specs.declared.Post.{Post}
 use Rattle.post.specs.Record.{isSource, lastOf, withClock, freshPost}
 use Rattle.post.specs.Newest.{raisedBelow}
-use Rattle.post.specs.Taking.{kept, ticked, ordered, raisedPost, taken}
+use Rattle.post.specs.Taking.{kept, ticked, ownTaken, raisedPost, taken}
 use Rattle.deliver.specs.Delivery.{isTaken}
 use Rattle.steps.specs.Refusals.{isOrder, isNext}
 use Rattle.yard.specs.Yards.{noPost}
@@ -73,8 +73,8 @@ kept-log p clock serial table q n stamp word s v e b =
 
 -- an order
 pub view-ordered : (p : Post) (word : ℕ) → Shaped p → Valid p → p .serial .0 < 16
-    → postView (ordered p word) ≡ model.ordered (p .lane) word (postView p)
-unfolding ordered ticked kept
+    → postView (ownTaken p word) ≡ model.ownTaken (p .lane) word (postView p)
+unfolding ownTaken ticked kept
 view-ordered p word s v h =
     let clock : ℕ = p .clock .0 + 1 in
     let serial : ℕ = p .serial .0 + 1 in

@@ -45,10 +45,10 @@ module _ (present sources dests : ℕ) where
       → orderYardRefusal w lane word ≡ n → model.orderRefused R (yardView w) lane word ≡ n → Simulates w (order lane word)
   unfolding model.step model.sentBy sentBy orderSentBy answer
   order-refused-same w s lane word n o ne c m = record {
-    view = rw (m, ne-eqb n 0 ne) (ap yardView (o .world));
-    sound = rw (o .world) s;
+    view = rw (m, ne-eqb n 0 ne) (ap yardView (o .leaves));
+    sound = rw (o .leaves) s;
     number = rw (o .answer, c);
-    stays = λ l. o .world;
+    stays = λ l. o .leaves;
     sends = rw (o .answer, m, ne-eqb n 0 ne);
   }
 
@@ -56,10 +56,10 @@ module _ (present sources dests : ℕ) where
       → hearYardRefusal w lane k ≡ n → model.hearRefused R (yardView w) lane k ≡ n → Simulates w (hear lane k)
   unfolding model.step model.sentBy sentBy answer
   hear-refused-same w s lane k n o ne c m = record {
-    view = rw (m, ne-eqb n 0 ne) (ap yardView (o .world));
-    sound = rw (o .world) s;
+    view = rw (m, ne-eqb n 0 ne) (ap yardView (o .leaves));
+    sound = rw (o .leaves) s;
     number = rw (o .answer, c);
-    stays = λ l. o .world;
+    stays = λ l. o .leaves;
     sends = refl;
   }
 
@@ -67,10 +67,10 @@ module _ (present sources dests : ℕ) where
       → beaconYardRefusal w lane ≡ n → model.beaconRefused R (yardView w) lane ≡ n → Simulates w (beacon lane)
   unfolding model.step model.sentBy sentBy answer
   beacon-refused-same w s lane n o ne c m = record {
-    view = rw (m, ne-eqb n 0 ne) (ap yardView (o .world));
-    sound = rw (o .world) s;
+    view = rw (m, ne-eqb n 0 ne) (ap yardView (o .leaves));
+    sound = rw (o .leaves) s;
     number = rw (o .answer, c);
-    stays = λ l. o .world;
+    stays = λ l. o .leaves;
     sends = refl;
   }
 

@@ -13,7 +13,7 @@ use Rattle.frame.specs.Layout.{frameOf}
 use Rattle.air.specs.Air.{stretchAt, airWith}
 use Rattle.post.specs.declared.Post.{Post}
 use Rattle.post.specs.Record.{isSource, lastOf}
-use Rattle.post.specs.Taking.{kept, ticked, ordered, raisedPost, taken}
+use Rattle.post.specs.Taking.{kept, ticked, ownTaken, raisedPost, taken}
 use Rattle.deliver.specs.Delivery.{delivered}
 use Rattle.steps.specs.Refusals.{orderRefusal, isNext, hearRefusal}
 use Rattle.steps.specs.Steps.{orderStep, hearStep}
@@ -50,8 +50,8 @@ delivered-roles q =
       dests = ap (λ (r : Post). r .dests) e;
     }
 
-pub ordered-roles : (p : Post) (word : ℕ) → SameRoles p (ordered p word)
-unfolding ordered kept ticked
+pub ordered-roles : (p : Post) (word : ℕ) → SameRoles p (ownTaken p word)
+unfolding ownTaken kept ticked
 ordered-roles p word = record { lane = refl; posts = refl; sources = refl; dests = refl }
 
 raised-roles : (p : Post) (f : Frame) → SameRoles p (raisedPost p f)
@@ -90,7 +90,7 @@ order-roles p word = go (same-or-not (orderRefusal p) 0)
     go : (orderRefusal p ≡ 0) ⊎ (orderRefusal p ≢ 0) → SameRoles p (orderStep p word .post)
     go (inl z) =
         rw (order-post p word z)
-        (then-roles p (ordered p word) (delivered (ordered p word) .post) (ordered-roles p word) (delivered-roles (ordered p word)))
+        (then-roles p (ownTaken p word) (delivered (ownTaken p word) .post) (ordered-roles p word) (delivered-roles (ownTaken p word)))
     go (inr n) = rw (order-refused p word n) (same-roles p)
 
 hear-roles : (p : Post) (f : Frame) → SameRoles p (hearStep p f .post)

@@ -22,7 +22,7 @@ use Rattle.model.proofs.Invariants.{RolesOk}
 use Rattle.model.proofs.Air.{total-bound}
 use Rattle.model.proofs.RollAccepted.{roll-accepted}
 use Rattle.model.proofs.Moves as moving
-use Rattle.agreement.specs.Demand3.{freshWorld, AllAccepted, RollCalled, FirstFrame, Demand3, Agreement}
+use Rattle.agreement.specs.Demand3.{freshWorld, AllAccepted, AfterRollCall, FirstFrame, Demand3, Agreement}
 use Rattle.agreement.proofs.Views.{rolesOf, placesView, airView, yardView}
 use Rattle.agreement.proofs.ArrayViews.{places-in}
 use Rattle.agreement.proofs.Sound.{Sound}
@@ -109,7 +109,7 @@ module _ (present sources dests : ℕ) (air : List ℕ) (small : present < 256) 
         (logs steps more a)
         (rw (append-nil (steps ++ more)) at (logs (steps ++ more) [] b))
 
-    rolls : (steps : List Step) (n : ℕ) → answer (run w steps) roll ≡ called (calling.the-variants.Called n) → RollCalled present sources dests w steps n
+    rolls : (steps : List Step) (n : ℕ) → answer (run w steps) roll ≡ called (calling.the-variants.Called n) → AfterRollCall present sources dests w steps n
     rolls steps n e =
         let ran = roll-ran (run w steps) n e in
         let c = moving.called R ro (airView air 0) steps (rw (count-posts present sources dests small) (some-ones present sources dests small smallSources smallDests z))

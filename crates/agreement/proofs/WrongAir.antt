@@ -31,13 +31,13 @@ module _ (w : World) (bad : length (w .air) ≢ 65536) where
       go : (lane < 8) ⊎ (8 ≤ lane) → (65535 < word) ⊎ (word ≤ 65535) → Refused w (one (order lane word))
       go (inr l) b =
           let o = order-4 w lane word l in
-          record { number = rw (o .answer, lt-ltb 7 lane (omega arith)); some = rw (o .answer) (omega arith); stays = o .world; nothing = rw (o .answer) }
+          record { number = rw (o .answer, lt-ltb 7 lane (omega arith)); some = rw (o .answer) (omega arith); stays = o .leaves; nothing = rw (o .answer) }
       go (inl l) (inl b) =
           let o = order-5 w lane word l b in
           record {
             number = rw (o .answer, le-ltb 7 lane (omega arith), lt-ltb 65535 word b);
             some = rw (o .answer) (omega arith);
-            stays = o .world;
+            stays = o .leaves;
             nothing = rw (o .answer);
           }
       go (inl l) (inr b) =
@@ -45,7 +45,7 @@ module _ (w : World) (bad : length (w .air) ≢ 65536) where
           record {
             number = rw (o .answer, le-ltb 7 lane (omega arith), le-ltb 65535 word b, ne-eqb (length (w .air)) 65536 bad);
             some = rw (o .answer) (omega arith);
-            stays = o .world;
+            stays = o .leaves;
             nothing = rw (o .answer);
           }
 
@@ -56,13 +56,13 @@ module _ (w : World) (bad : length (w .air) ≢ 65536) where
       go : (lane < 8) ⊎ (8 ≤ lane) → Refused w (one (hear lane k))
       go (inr l) =
           let o = hear-4 w lane k l in
-          record { number = rw (o .answer, lt-ltb 7 lane (omega arith)); some = rw (o .answer) (omega arith); stays = o .world; nothing = refl }
+          record { number = rw (o .answer, lt-ltb 7 lane (omega arith)); some = rw (o .answer) (omega arith); stays = o .leaves; nothing = refl }
       go (inl l) =
           let o = hear-13 w lane k l bad in
           record {
             number = rw (o .answer, le-ltb 7 lane (omega arith), ne-eqb (length (w .air)) 65536 bad);
             some = rw (o .answer) (omega arith);
-            stays = o .world;
+            stays = o .leaves;
             nothing = refl;
           }
 
@@ -73,13 +73,13 @@ module _ (w : World) (bad : length (w .air) ≢ 65536) where
       go : (lane < 8) ⊎ (8 ≤ lane) → Refused w (one (beacon lane))
       go (inr l) =
           let o = beacon-4 w lane l in
-          record { number = rw (o .answer, lt-ltb 7 lane (omega arith)); some = rw (o .answer) (omega arith); stays = o .world; nothing = refl }
+          record { number = rw (o .answer, lt-ltb 7 lane (omega arith)); some = rw (o .answer) (omega arith); stays = o .leaves; nothing = refl }
       go (inl l) =
           let o = beacon-13 w lane l bad in
           record {
             number = rw (o .answer, le-ltb 7 lane (omega arith), ne-eqb (length (w .air)) 65536 bad);
             some = rw (o .answer) (omega arith);
-            stays = o .world;
+            stays = o .leaves;
             nothing = refl;
           }
 

@@ -11,7 +11,7 @@ use Rattle.cells.specs.Tables.{orderPlace}
 use Rattle.judge.specs.Judgement.{badRecord}
 use Rattle.yard.specs.Yards.{postAt, freshYard, yardRefusal}
 use Rattle.yard.specs.Singles.{frameAt}
-use Rattle.yard.specs.Worlds.{World, Single, single, singles}
+use Rattle.yard.specs.Worlds.{World, worldOf, Single, single, singles}
 use Rattle.roll.specs.declared.RollAnswer as calling
 use Rattle.roll.specs.RollCall.{rollSteps}
 use Rattle.roll.specs.Runs.{Step, one, roll, answer, called, step, run, Order, sent}
@@ -22,7 +22,7 @@ use Rattle.agreement.specs.YardRefusals.{stepRefusal}
 
 -- a fresh yard of three sets of lanes, and any air
 abbrev pub freshWorld : ℕ → ℕ → ℕ → List ℕ → World
-freshWorld present sources dests air = record { yard = freshYard present sources dests; air = air }
+freshWorld present sources dests air = worldOf (freshYard present sources dests) air
 
 -- ---- what holds after a list of steps
 
@@ -50,7 +50,7 @@ AllAccepted w [] = Unit {0}
 AllAccepted w (s ∷ l) = (answerNumber (answer w (one s)) ≡ 0) × AllAccepted (single w s) l
 
 -- "If the steps end with a roll call that is not refused": it answered n
-pub record RollCalled (present sources dests : ℕ) (w : World) (steps : List Step) (n : ℕ) : Type 0 where
+pub record AfterRollCall (present sources dests : ℕ) (w : World) (steps : List Step) (n : ℕ) : Type 0 where
   -- "every destination's log is exactly all orders sent so far, by stamp and then lane, each once"
   pub logs : (lane : ℕ) → hasLane dests lane ≡ true → logAt (run w (steps ++ (roll ∷ []))) lane ≡ inOrder (sent w (steps ++ (roll ∷ [])))
   -- "It does what this list of single steps does, run one after another"
@@ -89,7 +89,7 @@ pub record Demand3 (present sources dests : ℕ) (w : World) : Type 0 where
   pub list : (steps : List Step) → OneList w steps
   pub agree : LogsAgree w
   pub rolls : (steps : List Step) (n : ℕ) → answer (run w steps) roll ≡ called (calling.the-variants.Called n)
-      → RollCalled present sources dests w steps n
+      → AfterRollCall present sources dests w steps n
   -- "24 and 28–30 arise only at a post run singly, never in a yard": each answer's number is one of the yard's own, for its own reason
   pub refusals : (steps : List Step) (s : Step) → answerNumber (answer (run w steps) s) ≡ stepRefusal (run w steps) s
   -- "a refused step left both as they were", yard and air

@@ -22,7 +22,7 @@ use Rattle.fits.proofs.ItemLengths.{itemsMost, most-fifteen, log-length
 use Rattle.fits.proofs.LineCounts.{spentFrom}
 use Rattle.fits.proofs.ScriptCounts.{ordersOf, AllCounted, lines-counted, lines-unless-spent}
 use Rattle.fits.specs.Printed.{stepsOf}
-use Rattle.fits.proofs.Runs.{after-run, orders-sent, Reached, reached-next, demand, reached-small, Bounded, right-bounded, right-spent, wrong-sent, wrong-bounded}
+use Rattle.fits.proofs.Runs.{after-run, orders-sent, LedTo, reached-next, demand, reached-small, Bounded, right-bounded, right-spent, wrong-sent, wrong-bounded}
 
 -- ---- the sums: p bytes for refused lines, t for the posts, orders whose items have o bytes at most, m of them, n beacons, k lines
 
@@ -80,12 +80,12 @@ module _ (s : List ℕ) (short : length s ≤ 48000) (at : ℕ) (inside : at ≤
   no-beacons = unfold freshYard in refl
 
   -- no step leads to it
-  start : Reached w w
+  start : LedTo w w
   start = ([], unfold run in refl)
 
   -- what the script's lines print and send
   counted : AllCounted w 1 at (length s) ls
-  counted = lines-counted s short (Reached w) (reached-next w) (reached-small present sources dests air small smallSources smallDests z)
+  counted = lines-counted s short (LedTo w) (reached-next w) (reached-small present sources dests air small smallSources smallDests z)
       (length s) w 1 at start inside (λ l. omega arith)
 
   -- ---- both
@@ -100,7 +100,7 @@ module _ (s : List ℕ) (short : length s ≤ 48000) (at : ℕ) (inside : at ≤
           right-end (length (refusedLines w 1 ls)) (length (postsText (worldAfter w ls .yard) 8)) (itemsMost (ordersOf w ls)) (length (ordersOf w ls))
           (worldAfter w ls .yard .beacons) (length ls) at (length s)
           (counted .few) (most-fifteen (ordersOf w ls)) (rw (orders-sent w ls) (b .count)) short (posts-fit b) (omega (arith, counted .sum, no-beacons))
-          (lines-unless-spent s short (Reached w) (reached-next w) (reached-small present sources dests air small smallSources smallDests z)
+          (lines-unless-spent s short (LedTo w) (reached-next w) (reached-small present sources dests air small smallSources smallDests z)
           (right-spent present sources dests air small smallSources smallDests z whole) (length s) w 1 at start inside (λ l. omega arith))
       go (inr bad) =
           let b = wrong-bounded present sources dests air small smallSources smallDests z bad steps in

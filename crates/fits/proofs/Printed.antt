@@ -9,7 +9,7 @@ use Rattle.lines.specs.Lines.{lineAt, numberOf}
 use Rattle.roll.specs.Runs.{run}
 use Rattle.yard.specs.Yards.{yardRefusal}
 use Rattle.yard.specs.Worlds.{World}
-use Rattle.meaning.specs.Script.{worldAfter, freshWorld, stepLines, scriptWorld}
+use Rattle.meaning.specs.Script.{worldAfter, scriptStart, stepLines, scriptWorld}
 use Rattle.agreement.specs.Demand3 as demand
 use Rattle.agreement.proofs.Theorem.{agreement}
 use Rattle.fits.specs.Printed.{stepsOf, Printed}
@@ -32,9 +32,9 @@ module _ (s air : List ℕ) where
   from-yard posts sources dests next e =
       let r = accepted s 0 (Yard posts sources dests next) e refl .0 in
       let good = yard-accepted posts sources dests (r .1) (r .5) (r .6) in
-      let made : freshWorld s air ≡ demand.freshWorld posts sources dests air =
+      let made : scriptStart s air ≡ demand.freshWorld posts sources dests air =
       rw (e, yard-made posts sources dests (r .1) (r .5) (r .6)) refl in
-      let ran : worldAfter (freshWorld s air) (stepLines s) ≡ run (demand.freshWorld posts sources dests air) (stepsOf (stepLines s)) =
+      let ran : worldAfter (scriptStart s air) (stepLines s) ≡ run (demand.freshWorld posts sources dests air) (stepsOf (stepLines s)) =
       ap (λ (w : World). worldAfter w (stepLines s)) made ∙ after-run (demand.freshWorld posts sources dests air) (stepLines s) in (
         posts,
         sources,

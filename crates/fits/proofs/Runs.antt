@@ -94,11 +94,11 @@ small-number w roll =
 
 -- ---- the worlds that a list of steps leads to
 
-abbrev pub Reached : World → World → Type 0
-Reached w v = (steps : List Step) × (run w steps ≡ v)
+abbrev pub LedTo : World → World → Type 0
+LedTo w v = (steps : List Step) × (run w steps ≡ v)
 
 -- a step more
-pub reached-next : (w v : World) → Reached w v → (x : Step) → Reached w (step v x)
+pub reached-next : (w v : World) → LedTo w v → (x : Step) → LedTo w (step v x)
 reached-next w v r x = (r .0 ++ (x ∷ []), run-last w (r .0) x ∙ ap (λ (u : World). step u x) (r .1))
 
 module _ (present sources dests : ℕ) (air : List ℕ) (small : present < 256) (smallSources : sources < 256) (smallDests : dests < 256)
@@ -111,7 +111,7 @@ module _ (present sources dests : ℕ) (air : List ℕ) (small : present < 256) 
   demand = agreement present sources dests air small smallSources smallDests z
 
   -- so each answer's number has two digits
-  pub reached-small : (v : World) → Reached w v → (x : Step) → answerNumber (answer v x) < 100
+  pub reached-small : (v : World) → LedTo w v → (x : Step) → answerNumber (answer v x) < 100
   reached-small v r x = rw (← (r .1)) (omega (arith, demand .refusals (r .0) x, small-number (run w (r .0)) x))
 
   -- what bounds the posts' lines
@@ -142,7 +142,7 @@ module _ (present sources dests : ℕ) (air : List ℕ) (small : present < 256) 
         low i = good-clock (rolesOf present sources dests) (ro present sources dests air small smallSources smallDests z whole) (yardView (run w steps)) (sent w steps) g i
 
     -- a roll call is refused only where fewer than eight beacons are left
-    pub right-spent : (v : World) → Reached w v → rollRefusal v ≢ 0 → spentFrom ≤ v .yard .beacons
+    pub right-spent : (v : World) → LedTo w v → rollRefusal v ≢ 0 → spentFrom ≤ v .yard .beacons
     unfolding rollRefusal
     right-spent v r n = rw (← (r .1)) (go (below-or-not (1024 - u .yard .beacons) (ones (u .yard .sources))))
       where

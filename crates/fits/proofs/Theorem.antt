@@ -10,7 +10,7 @@ use Rattle.lines.specs.declared.Line.{Line}
 use Rattle.lines.specs.declared.Line.the-variants.{Yard, Order, Hear, Beacon, Roll, Refused}
 use Rattle.lines.specs.Lines.{lineAt, numberOf, nextOf, judged}
 use Rattle.yard.specs.Worlds.{World}
-use Rattle.meaning.specs.Script.{worldAfter, refusedLines, freshWorld, stepLines, scriptWorld, scriptText, printout}
+use Rattle.meaning.specs.Script.{worldAfter, refusedLines, scriptStart, stepLines, scriptWorld, scriptText, printout}
 use Rattle.meaning.specs.Texts.{postsText}
 use Rattle.laws.proofs.TestLaws.{same-or-not}
 use Rattle.agreement.specs.Demand3 as demand
@@ -34,18 +34,18 @@ module _ (s air : List ℕ) where
     Fitting w = length (refusedLines w 1 (stepLines s)) + length (postsText (worldAfter w (stepLines s) .yard) 8) ≤ outputBytes
 
     -- its first line makes a yard
-    from-yard : (posts sources dests next : ℕ) → lineAt s 0 ≡ Yard posts sources dests next → Fitting (freshWorld s air)
+    from-yard : (posts sources dests next : ℕ) → lineAt s 0 ≡ Yard posts sources dests next → Fitting (scriptStart s air)
     unfolding Fitting
     from-yard posts sources dests next e =
         let r = accepted s 0 (Yard posts sources dests next) e refl .0 in
-        let made : freshWorld s air ≡ demand.freshWorld posts sources dests air =
+        let made : scriptStart s air ≡ demand.freshWorld posts sources dests air =
         rw (e, yard-made posts sources dests (r .1) (r .5) (r .6)) refl in
         rw made
         (all-fits s (accepted-short s z) (nextOf s (lineAt s 0)) (reaches s 0 (accepted-some s z) .inside)
         posts sources dests air (r .2) (r .3) (r .4) (yard-accepted posts sources dests (r .1) (r .5) (r .6)))
 
     -- no other line can be the first
-    from-line : (l : Line) → lineAt s 0 ≡ l → numberOf l ≡ 0 → Fitting (freshWorld s air)
+    from-line : (l : Line) → lineAt s 0 ≡ l → numberOf l ≡ 0 → Fitting (scriptStart s air)
     from-line (Yard posts sources dests next) e y = from-yard posts sources dests next e
     from-line (Order lane word next) e y = absurd (omega (arith, accepted s 0 (Order lane word next) e y .0 .0))
     from-line (Hear lane frame next) e y = absurd (omega (arith, accepted s 0 (Hear lane frame next) e y .0 .0))

@@ -7,7 +7,7 @@ use lib.Dec.{eqb}
 use Rattle.frame.specs.declared.Frame.{Frame}
 use Rattle.post.specs.declared.Post.{Post}
 use Rattle.post.specs.Record.{isSource, lastOf}
-use Rattle.post.specs.Taking.{kept, ticked, ordered, raisedPost, taken}
+use Rattle.post.specs.Taking.{kept, ticked, ownTaken, raisedPost, taken}
 use Rattle.steps.specs.Refusals.{orderRefusal, isNext, hearRefusal}
 use Rattle.steps.specs.InPlace.{orderTook, hearTook}
 use Rattle.yard.specs.Singles.{frameAt}
@@ -41,7 +41,7 @@ heard-roles known air p frames k = go (eqb (hearStopped air p frames k) 0) refl
     go false e = rw e ((refl, refl, refl, refl), refl)
 
 order-took-roles : (p : Post) (word : ℕ) → SameRoles p (orderTook p word)
-unfolding orderTook ordered kept ticked
+unfolding orderTook ownTaken kept ticked
 order-took-roles p word = go (eqb (orderRefusal p) 0) refl
   where
     go : (b : Bool) → eqb (orderRefusal p) 0 ≡ b → SameRoles p (orderTook p word)

@@ -9,7 +9,7 @@ use Rattle.frame.specs.Refusals.{frameRefusal}
 use Rattle.post.specs.declared.Post.{Post}
 use Rattle.post.specs.Record.{lastOf}
 use Rattle.post.specs.Newest.{orderFrame, beaconFrame}
-use Rattle.post.specs.Taking.{kept, ticked, ordered, taken}
+use Rattle.post.specs.Taking.{kept, ticked, ownTaken, taken}
 use Rattle.steps.specs.Refusals.{isNext, orderRefusal, hearRefusal, beaconRefusal}
 use Rattle.steps.specs.Steps.{orderSent, orderStep, hearTaken, hearStep, beaconStep}
 use Rattle.steps.proofs.Ways.{can-rise}
@@ -26,8 +26,8 @@ pub record Sendable (f : Frame) : Type 0 where
 
 -- the frame of an order that is not refused is that of the post that took it
 pub order-frame : (p : Post) (word : ℕ) → orderRefusal p ≡ 0
-    → orderStep p word .frame ≡ orderFrame (ordered p word) (p .lane) (p .serial .0 + 1) (p .clock .0 + 1) word
-unfolding orderStep orderSent ordered kept ticked
+    → orderStep p word .frame ≡ orderFrame (ownTaken p word) (p .lane) (p .serial .0 + 1) (p .clock .0 + 1) word
+unfolding orderStep orderSent ownTaken kept ticked
 order-frame p word z = rw z
 
 -- and can be sent
@@ -36,9 +36,9 @@ order-sendable p word b z s v =
     let room = can-rise (p .lane) (p .posts) (p .sources) (p .serial .0) (p .clock .0) z in
     rw (order-frame p word z)
     (record {
-      good = order-accepted (ordered p word) (p .lane) (p .serial .0 + 1) (p .clock .0 + 1) word
+      good = order-accepted (ownTaken p word) (p .lane) (p .serial .0 + 1) (p .clock .0 + 1) word
           (ordered-valid p word z s v .lane) (v .lane) (omega arith) (omega (arith, room .1)) (omega arith);
-      fits = order-fits (ordered p word) (p .lane) (p .serial .0 + 1) (p .clock .0 + 1) word
+      fits = order-fits (ownTaken p word) (p .lane) (p .serial .0 + 1) (p .clock .0 + 1) word
           (ordered-shaped p word z b s .tableValues) (omega (arith, room .0)) b;
     })
 

@@ -8,7 +8,7 @@ use Rattle.frame.specs.declared.Frame.{Frame}
 use Rattle.frame.specs.Layout.{Fits}
 use Rattle.frame.specs.Refusals.{frameRefusal}
 use Rattle.post.specs.declared.Post.{Post}
-use Rattle.post.specs.Taking.{ordered}
+use Rattle.post.specs.Taking.{ownTaken}
 use Rattle.deliver.specs.Delivery.{isTaken, delivered}
 use Rattle.steps.specs.Refusals.{orderRefusal, hearRefusal}
 use Rattle.steps.specs.Steps.{orderStep, hearStep}
@@ -27,7 +27,7 @@ pub order-shaped : (p : Post) (word : ℕ) → word < 65536 → Shaped p → Val
 order-shaped p word b s v = go (same-or-not (orderRefusal p) 0)
   where
     go : (orderRefusal p ≡ 0) ⊎ (orderRefusal p ≢ 0) → Shaped (orderStep p word .post)
-    go (inl z) = rw (order-post p word z) (delivered-shaped (ordered p word) (ordered-shaped p word z b s) (ordered-valid p word z s v))
+    go (inl z) = rw (order-post p word z) (delivered-shaped (ownTaken p word) (ordered-shaped p word z b s) (ordered-valid p word z s v))
     go (inr n) = rw (order-refused p word n) s
 
 -- an order leaves a valid record
@@ -35,7 +35,7 @@ pub order-valid : (p : Post) (word : ℕ) → word < 65536 → Shaped p → Vali
 order-valid p word b s v = go (same-or-not (orderRefusal p) 0)
   where
     go : (orderRefusal p ≡ 0) ⊎ (orderRefusal p ≢ 0) → Valid (orderStep p word .post)
-    go (inl z) = rw (order-post p word z) (delivered-valid (ordered p word) (ordered-shaped p word z b s) (ordered-valid p word z s v))
+    go (inl z) = rw (order-post p word z) (delivered-valid (ownTaken p word) (ordered-shaped p word z b s) (ordered-valid p word z s v))
     go (inr n) = rw (order-refused p word n) v
 
 -- a hearing leaves a record of its type
@@ -90,9 +90,9 @@ log-after p q r e d s v sr vr =
 
 -- after an order that is not refused
 pub order-log : (p : Post) (word : ℕ) → word < 65536 → orderRefusal p ≡ 0 → Shaped p → Valid p
-    → LogAfter p (ordered p word) (orderStep p word .post)
+    → LogAfter p (ownTaken p word) (orderStep p word .post)
 order-log p word b z s v =
-    log-after p (ordered p word) (orderStep p word .post) (ordered-log p word) (order-post p word z)
+    log-after p (ownTaken p word) (orderStep p word .post) (ordered-log p word) (order-post p word z)
     (ordered-shaped p word z b s)
     (ordered-valid p word z s v)
     (order-shaped p word b s v)

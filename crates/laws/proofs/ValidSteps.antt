@@ -13,7 +13,7 @@ use Rattle.cells.specs.Tables.{withStamp}
 use Rattle.post.specs.declared.Post.{Post}
 use Rattle.post.specs.Record.{isSource, lastOf, withClock}
 use Rattle.post.specs.Newest.{raisedBelow}
-use Rattle.post.specs.Taking.{kept, ticked, ordered, raisedPost, taken}
+use Rattle.post.specs.Taking.{kept, ticked, ownTaken, raisedPost, taken}
 use Rattle.deliver.specs.Delivery.{delivered}
 use Rattle.steps.specs.Refusals.{isNext, orderRefusal, hearRefusal}
 use Rattle.steps.specs.Steps.{orderSent, orderStep, hearTaken, hearOther, hearStep}
@@ -29,8 +29,8 @@ use Rattle.laws.proofs.Hearable.{next-is, hearable, takes-other}
 -- ---- an own order
 
 -- the post that has taken its own order is a record of its type
-pub ordered-shaped : (p : Post) (word : ℕ) → orderRefusal p ≡ 0 → word < 65536 → Shaped p → Shaped (ordered p word)
-unfolding ordered ticked
+pub ordered-shaped : (p : Post) (word : ℕ) → orderRefusal p ≡ 0 → word < 65536 → Shaped p → Shaped (ownTaken p word)
+unfolding ownTaken ticked
 ordered-shaped p word z b s =
     let room = can-rise (p .lane) (p .posts) (p .sources) (p .serial .0) (p .clock .0) z in
     let c : p .clock .0 + 1 < 65536 = omega (arith, room .0) in
@@ -42,8 +42,8 @@ ordered-shaped p word z b s =
     s)
 
 -- and a valid one
-pub ordered-valid : (p : Post) (word : ℕ) → orderRefusal p ≡ 0 → Shaped p → Valid p → Valid (ordered p word)
-unfolding ordered ticked
+pub ordered-valid : (p : Post) (word : ℕ) → orderRefusal p ≡ 0 → Shaped p → Valid p → Valid (ownTaken p word)
+unfolding ownTaken ticked
 ordered-valid p word z s v =
     let room = can-rise (p .lane) (p .posts) (p .sources) (p .serial .0) (p .clock .0) z in
     kept-valid p (p .clock .0 + 1) (p .serial .0 + 1) (withStamp (p .table) (p .lane) (p .serial .0 + 1) (p .clock .0 + 1)) (p .lane)
@@ -51,8 +51,8 @@ ordered-valid p word z s v =
     (omega (arith, room .1)) (λ e. refl) (λ n. absurd (n refl))
 
 -- its log is the old one
-pub ordered-log : (p : Post) (word : ℕ) → logOf (ordered p word) ≡ logOf p
-unfolding ordered ticked kept
+pub ordered-log : (p : Post) (word : ℕ) → logOf (ownTaken p word) ≡ logOf p
+unfolding ownTaken ticked kept
 ordered-log p word = refl
 
 -- ---- a hearing, up to delivery
@@ -167,7 +167,7 @@ module _ (p : Post) (f : Frame) where
 -- ---- the steps
 
 -- an order that is not refused leaves the post that took it, delivered; a refused one leaves the post
-pub order-post : (p : Post) (word : ℕ) → orderRefusal p ≡ 0 → orderStep p word .post ≡ delivered (ordered p word) .post
+pub order-post : (p : Post) (word : ℕ) → orderRefusal p ≡ 0 → orderStep p word .post ≡ delivered (ownTaken p word) .post
 unfolding orderStep orderSent
 order-post p word z = rw z
 

@@ -16,11 +16,11 @@ unfoldable pub freshKept : Post → ℕ → ℕ → ℕ → ℕ → Post
 freshKept p lane posts sources dests = cond (eqb (freshRefusal lane posts sources dests) 0) (freshPost lane posts sources dests) p
 
 -- what the functions by value hand to those that store the record
-abbrev pub made : Post → ℕ → ℕ → ℕ → ℕ → Made
-made p lane posts sources dests = record { refusal = freshRefusal lane posts sources dests; post = freshKept p lane posts sources dests }
+abbrev pub lentFresh : Post → ℕ → ℕ → ℕ → ℕ → Made
+lentFresh p lane posts sources dests = record { refusal = freshRefusal lane posts sources dests; post = freshKept p lane posts sources dests }
 
-abbrev pub ordered : Post → ℕ → List ℕ → Stepped
-ordered p word buffer = record { answer = orderTold (orderSingly p word buffer .answer); post = orderSingly p word buffer .post }
+abbrev pub lentOrder : Post → ℕ → List ℕ → Stepped
+lentOrder p word buffer = record { answer = orderTold (orderSingly p word buffer .answer); post = orderSingly p word buffer .post }
 
-abbrev pub heard : Post → List ℕ → List ℕ → Stepped
-heard p frame buffer = record { answer = hearTold (hearSingly p frame buffer .answer); post = hearSingly p frame buffer .post }
+abbrev pub lentHear : Post → List ℕ → List ℕ → Stepped
+lentHear p frame buffer = record { answer = hearTold (hearSingly p frame buffer .answer); post = hearSingly p frame buffer .post }

@@ -7,11 +7,11 @@ use crate::told::order_told;
 use post::Post;
 ghost use mathlib.Core.Path.{_≡_};
 ghost use Rattle.single.specs.Single.{orderBuffer, hearBuffer, beaconRefusalSingly, beaconBuffer};
-ghost use Rattle.lent_post.specs.Lent.{made, ordered, heard};
+ghost use Rattle.lent_post.specs.Lent.{lentFresh, lentOrder, lentHear};
 
 // A fresh post, or the refusal (12, 21) and the post as it was.
 pub(crate) fn fresh(p: Post, lane: u8, posts: u8, sources: u8, dests: u8) -> Made
-    ensures { λ r. ⌜ r ≡ made p lane posts sources dests ⌝ }
+    ensures { λ r. ⌜ r ≡ lentFresh p lane posts sources dests ⌝ }
 {
     let asked = single::fresh(lane, posts, sources, dests);
     let post = asked.post;
@@ -29,7 +29,7 @@ pub(crate) fn fresh(p: Post, lane: u8, posts: u8, sources: u8, dests: u8) -> Mad
 }
 
 pub(crate) fn order(p: Post, word: u16, buffer: &mut [u8]) -> Stepped
-    ensures { λ r. ⌜ (r ≡ ordered p word (now (buffer .entry))) × (now (buffer .exit) ≡ orderBuffer p word (now (buffer .entry))) ⌝ }
+    ensures { λ r. ⌜ (r ≡ lentOrder p word (now (buffer .entry))) × (now (buffer .exit) ≡ orderBuffer p word (now (buffer .entry))) ⌝ }
 {
     let sent = single::order(p, word, buffer);
     let answer = sent.answer;
@@ -41,11 +41,11 @@ pub(crate) fn order(p: Post, word: u16, buffer: &mut [u8]) -> Stepped
 }
 
 pub(crate) fn hear(p: Post, frame: &[u8], buffer: &mut [u8]) -> Stepped
-    ensures { λ r. ⌜ (r ≡ heard p (now (frame .entry)) (now (buffer .entry))) × (now (buffer .exit) ≡ hearBuffer p (now (frame .entry)) (now (buffer .entry))) ⌝ }
+    ensures { λ r. ⌜ (r ≡ lentHear p (now (frame .entry)) (now (buffer .entry))) × (now (buffer .exit) ≡ hearBuffer p (now (frame .entry)) (now (buffer .entry))) ⌝ }
 {
-    let heard = single::hear(p, frame, buffer);
-    let answer = heard.answer;
-    let after = heard.post;
+    let lentHear = single::hear(p, frame, buffer);
+    let answer = lentHear.answer;
+    let after = lentHear.post;
     Stepped {
         answer: hear_told(answer),
         post: after,

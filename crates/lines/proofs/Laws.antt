@@ -8,7 +8,7 @@ use lib.ListN.{length, getD, List·getD-eq-default}
 use lib.Dec.{ltb, eqb, lit<}
 use borrow.Author.Tests.{ltb-true, ltb-false, le-leb, lt-leb}
 use Rattle.lines.specs.Scan.{digitAt}
-use Rattle.lines.specs.Lines.{stepRefusal}
+use Rattle.lines.specs.Lines.{stepLineRefusal}
 
 -- a test does not both fail and hold
 pub never : {X : Type 0} → false ≡ true → X
@@ -46,8 +46,8 @@ chain true k r h e = absurd (omega arith)
 chain false k r h e = (refl, e)
 
 -- a step that is not refused stands after line 1, its numbers in range
-pub step-right : (at l w : ℕ) → stepRefusal at l w ≡ 0 → (0 < at) × (l < 8) × (w < 65536)
-unfolding stepRefusal
+pub step-right : (at l w : ℕ) → stepLineRefusal at l w ≡ 0 → (0 < at) × (l < 8) × (w < 65536)
+unfolding stepLineRefusal
 step-right at l w h =
     let a = chain (eqb at 0) 3 _ (lit< tt) h in
     let b = chain (ltb 7 l) 4 _ (lit< tt) (a .1) in

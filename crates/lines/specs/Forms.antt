@@ -72,8 +72,8 @@ abbrev pub bitOf : ℕ → ℕ
 bitOf lane = cond (ltb lane 8) (2 ^ lane) 0
 
 -- a post more: its lane is at most 7 and above those before it just when its bit is above their set
-unfoldable pub withPost : YardScan → Scan → YardScan
-withPost y c = record {
+unfoldable pub postAdded : YardScan → Scan → YardScan
+postAdded y c = record {
   ok = c .ok;
   at = c .at;
   posts = bitOr (y .posts) (bitOf (c .earlier));
@@ -85,7 +85,7 @@ withPost y c = record {
 -- the posts from there on, as long as one begins; n is above their number
 unfoldable pub postsRead : List ℕ → YardScan → ℕ → YardScan
 postsRead s y zero = y
-postsRead s y (suc n) = cond (y .ok && stands s (y .at) (bytes " (")) (postsRead s (withPost y (readPost s (y .at))) n) y
+postsRead s y (suc n) = cond (y .ok && stands s (y .at) (bytes " (")) (postsRead s (postAdded y (readPost s (y .at))) n) y
 
 -- before the first post, after `(yard`
 abbrev pub noPosts : Scan → YardScan

@@ -20,8 +20,8 @@ yardLine at y =
     (Refused 3)
 
 -- 3, 4: "A step's lane over 7.", 5: "A word over 65,535."
-unfoldable pub stepRefusal : ℕ → ℕ → ℕ → ℕ
-stepRefusal at lane word =
+unfoldable pub stepLineRefusal : ℕ → ℕ → ℕ → ℕ
+stepLineRefusal at lane word =
     cond (eqb at 0) 3
     (cond (ltb 7 lane) 4
     (cond (ltb 65535 word) 5
@@ -29,21 +29,21 @@ stepRefusal at lane word =
 
 unfoldable pub orderLine : ℕ → Scan → Line
 orderLine at c =
-    cond (eqb (stepRefusal at (c .earlier) (c .latest)) 0) (Order (c .earlier) (c .latest) (c .at))
-    (Refused (stepRefusal at (c .earlier) (c .latest)))
+    cond (eqb (stepLineRefusal at (c .earlier) (c .latest)) 0) (Order (c .earlier) (c .latest) (c .at))
+    (Refused (stepLineRefusal at (c .earlier) (c .latest)))
 
 unfoldable pub hearLine : ℕ → Scan → Line
 hearLine at c =
-    cond (eqb (stepRefusal at (c .earlier) 0) 0) (Hear (c .earlier) (c .latest) (c .at))
-    (Refused (stepRefusal at (c .earlier) 0))
+    cond (eqb (stepLineRefusal at (c .earlier) 0) 0) (Hear (c .earlier) (c .latest) (c .at))
+    (Refused (stepLineRefusal at (c .earlier) 0))
 
 unfoldable pub beaconLine : ℕ → Scan → Line
 beaconLine at c =
-    cond (eqb (stepRefusal at (c .latest) 0) 0) (Beacon (c .latest) (c .at))
-    (Refused (stepRefusal at (c .latest) 0))
+    cond (eqb (stepLineRefusal at (c .latest) 0) 0) (Beacon (c .latest) (c .at))
+    (Refused (stepLineRefusal at (c .latest) 0))
 
 unfoldable pub rollLine : ℕ → Scan → Line
-rollLine at c = cond (eqb (stepRefusal at 0 0) 0) (Roll (c .at)) (Refused (stepRefusal at 0 0))
+rollLine at c = cond (eqb (stepLineRefusal at 0 0) 0) (Roll (c .at)) (Refused (stepLineRefusal at 0 0))
 
 -- the form that a line has, tried one after the other; 2: "A line not of the form below .."
 unfoldable pub yardOr : List ℕ → ℕ → Line

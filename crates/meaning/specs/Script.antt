@@ -52,18 +52,18 @@ refusedLines w n (l ∷ ls) =
 
 -- ---- a script that is not refused: line 1 makes the yard, the lines after it are its steps
 
-abbrev pub freshWorld : List ℕ → List ℕ → World
-freshWorld s air = record { yard = yardOf (lineAt s 0); air = air }
+abbrev pub scriptStart : List ℕ → List ℕ → World
+scriptStart s air = record { yard = yardOf (lineAt s 0); air = air }
 
 abbrev pub stepLines : List ℕ → List Line
 stepLines s = linesFrom s (nextOf s (lineAt s 0)) (length s)
 
 unfoldable pub scriptWorld : List ℕ → List ℕ → World
-scriptWorld s air = worldAfter (freshWorld s air) (stepLines s)
+scriptWorld s air = worldAfter (scriptStart s air) (stepLines s)
 
 -- "all steps run; each refused one prints ..; then the posts print a line each"
 unfoldable pub scriptText : List ℕ → List ℕ → List ℕ
-scriptText s air = refusedLines (freshWorld s air) 1 (stepLines s) ++ postsText (scriptWorld s air .yard) 8
+scriptText s air = refusedLines (scriptStart s air) 1 (stepLines s) ++ postsText (scriptWorld s air .yard) 8
 
 -- ---- any script
 

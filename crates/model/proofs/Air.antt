@@ -8,7 +8,7 @@ use native.Mathlib.Omega.{arith}
 use Rattle.yard.specs.Worlds.{Single, order, hear, beacon}
 use Rattle.roll.specs.Runs.{Order}
 use Rattle.model.proofs.Functions.{upd, upd-same, upd-other, upd-case, upd2-case, sumBelow, sum-same, sum-more, sum-bound}
-use Rattle.model.proofs.Model.{Frame, Post, Roles, Yard, orderOf, deliver, entriesFrame, noOrder, ordered, raised, hearRefused, orderDone}
+use Rattle.model.proofs.Model.{Frame, Post, Roles, Yard, orderOf, deliver, entriesFrame, noOrder, ownTaken, raised, hearRefused, orderDone}
 use Rattle.model.proofs.Model.{beaconDone, hearDone, step, run, freshPost, fresh}
 use Rattle.model.proofs.Invariants.{RolesOk, source-below, Posts, Sent, FrameOk, YardOk, sends-source}
 use Rattle.model.proofs.Changes.{older-frames}
@@ -100,7 +100,7 @@ order-air R Y p w l y a = record {
     P = Y .posts p
 
     Q : Post
-    Q = ordered p w P
+    Q = ownTaken p w P
 
     D : Post
     D = deliver R p Q

@@ -11,7 +11,7 @@ use borrow.Author.Tests.{eqb-true, eq-eqb, ne-eqb}
 use Rattle.laws.proofs.TestLaws.{same-or-not, not-both}
 use Rattle.yard.specs.Worlds.{Single, order, hear, beacon}
 use Rattle.model.proofs.Functions.{upd, upd-same, upd-other, sumBelow, sum-same, sum-more}
-use Rattle.model.proofs.Model.{Post, Roles, Yard, deliver, ordered, orderRefused, orderDone, hearDone, step, sentBy, run, sent, laneHears}
+use Rattle.model.proofs.Model.{Post, Roles, Yard, deliver, ownTaken, orderRefused, orderDone, hearDone, step, sentBy, run, sent, laneHears}
 use Rattle.model.proofs.Model.{lanesHears, postsHear, beaconsSent, sourcesBelow, postsBelow, beaconsHeard, postsHearBeacons, rollSteps}
 use Rattle.model.proofs.Invariants.{RolesOk, YardOk}
 use Rattle.model.proofs.Hearing.{hear-own}
@@ -159,7 +159,7 @@ module _ (R : Roles) where
   step-orders Y (order p w) = go (eqb (orderRefused R Y p w) 0) refl
     where
       D : Post
-      D = deliver R p (ordered p w (Y .posts p))
+      D = deliver R p (ownTaken p w (Y .posts p))
 
       more : p < 8 → orders (orderDone R Y p w) ≡ suc (orders Y)
       more l = sum-more (λ i. Y .posts i .own) (λ i. upd (Y .posts) p D i .own) 8 p l

@@ -129,8 +129,8 @@ unfoldable pub raise : (ℕ → ℕ → ℕ) → (ℕ → ℕ) → (ℕ → ℕ)
 raise t e s i n = cond (eqb n (e i)) (max (t i n) (s i)) (t i n)
 
 -- order
-abbrev pub ordered : ℕ → ℕ → Post → Post
-ordered p w P = record {
+abbrev pub ownTaken : ℕ → ℕ → Post → Post
+ownTaken p w P = record {
   clock = suc (P .clock);
   own = suc (P .own);
   last = upd (P .last) p (suc (P .own));
@@ -219,7 +219,7 @@ module _ (R : Roles) where
   -- the steps, not refused
   abbrev pub orderDone : Yard → ℕ → ℕ → Yard
   orderDone Y p w =
-      let P = ordered p w (Y .posts p) in
+      let P = ownTaken p w (Y .posts p) in
       record {
         posts = upd (Y .posts) p (deliver R p P);
         air = upd (Y .air) (Y .frames) (entriesFrame false p (orderOf P p (P .own)) P);

@@ -6,7 +6,7 @@ use Prim.Native.Nat.{ℕ, suc, _≤_, _<_}
 use native.Mathlib.Omega.{arith}
 use Rattle.laws.proofs.TestLaws.{same-or-not, not-both}
 use Rattle.model.proofs.Functions.{upd, upd-same, upd-other, upd-case, upd2, upd2-same, upd2-keep, upd2-case}
-use Rattle.model.proofs.Model.{Frame, Post, Roles, Yard, orderOf, deliver, entriesFrame, ordered, orderDone}
+use Rattle.model.proofs.Model.{Frame, Post, Roles, Yard, orderOf, deliver, entriesFrame, ownTaken, orderDone}
 use Rattle.model.proofs.Invariants.{RolesOk, Posts, stampOf, wordOf, Holds, Knows, LogOk, SelfOk, FrameOk, YardOk, Grew, holds-grew, no-more-grew}
 use Rattle.model.proofs.Invariants.{no-more-later, frame-grew, Grows, grew}
 use Rattle.model.proofs.Entries.{broadcast-ok}
@@ -25,7 +25,7 @@ order-ok R ro Y p w b present room y =
     P = Y .posts p
 
     Q : Post
-    Q = ordered p w P
+    Q = ownTaken p w P
 
     X : Posts
     X = upd (Y .posts) p (deliver R p Q)

@@ -17,8 +17,8 @@ unfoldable pub ticked : Post → ℕ → ℕ → Post
 ticked p serial clock = withClock p clock serial (withStamp (p .table) (p .lane) serial clock)
 
 -- "Clock and own serial each rise by 1. The table entry (p, serial) becomes the clock. The post takes its own order"
-unfoldable pub ordered : Post → ℕ → Post
-ordered p word =
+unfoldable pub ownTaken : Post → ℕ → Post
+ownTaken p word =
     let clock = p .clock .0 + 1 in
     let serial = p .serial .0 + 1 in
     kept (ticked p serial clock) (p .lane) serial clock word

@@ -12,8 +12,8 @@ abbrev pub refusalOf : List ℕ → ℕ → ℕ → List ℕ
 refusalOf label line number = label ++ decimal line ++ bytes " " ++ decimal number ++ bytes ")\n"
 
 -- `(post LANE (clock CLOCK) (sent SENT) (log`
-abbrev pub headOf : ℕ → ℕ → ℕ → List ℕ
-headOf lane clock sent = bytes "(post " ++ decimal lane ++ bytes " (clock " ++ decimal clock ++ bytes ") (sent " ++ decimal sent ++ bytes ") (log"
+abbrev pub postHead : ℕ → ℕ → ℕ → List ℕ
+postHead lane clock sent = bytes "(post " ++ decimal lane ++ bytes " (clock " ++ decimal clock ++ bytes ") (sent " ++ decimal sent ++ bytes ") (log"
 
 -- the order kept at a place, of the arrays of stamps and words
 abbrev pub keptAt : List ℕ → List ℕ → ℕ → Order

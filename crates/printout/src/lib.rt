@@ -10,7 +10,7 @@ ghost use lib.ListN.{take};
 ghost use Rattle.post.specs.Record.{postOf};
 ghost use Rattle.text.specs.Writing.{out, wrote};
 ghost use Rattle.meaning.specs.Texts.{badText, refusedText, postText};
-ghost use Rattle.printout.specs.Items.{refusalOf, headOf, itemOf, itemsOf};
+ghost use Rattle.printout.specs.Items.{refusalOf, postHead, itemOf, itemsOf};
 
 // `(bad LINE NUMBER)`
 pub fn put_bad(buffer: &mut [u8], at: usize, line: u16, number: u8) -> usize
@@ -53,7 +53,7 @@ pub fn put_post(
 
 // `(post LANE (clock CLOCK) (sent SENT) (log`
 fn put_head(buffer: &mut [u8], at: usize, lane: u8, clock: u16, sent: u8) -> usize
-    ensures { λ r. ⌜ out (now (buffer .exit)) r ≡ wrote (out (now (buffer .entry)) at) (headOf lane clock sent) ⌝ }
+    ensures { λ r. ⌜ out (now (buffer .exit)) r ≡ wrote (out (now (buffer .entry)) at) (postHead lane clock sent) ⌝ }
 {
     let a = put_labelled(buffer, at, b"(post ", lane as u16);
     let a = put_labelled(buffer, a, b" (clock ", clock);

@@ -7,7 +7,7 @@ use native.Mathlib.Omega.{arith}
 use lib.ListN.{length}
 use Rattle.text.specs.Bytes.{bytes}
 use Rattle.lines.specs.Scan.{stands, failed, readText}
-use Rattle.lines.specs.Forms.{asRole, orRole, bitOf, readPost, withPost, postsRead}
+use Rattle.lines.specs.Forms.{asRole, orRole, bitOf, readPost, postAdded, postsRead}
 use Rattle.lines.specs.declared.Scan.{Scan}
 use Rattle.lines.specs.declared.YardScan.{YardScan}
 use Rattle.lines.proofs.Laws.{both}
@@ -45,15 +45,15 @@ posts-start s y = (length s, omega arith, refl)
 
 -- it ends further on, and not past the end of the text
 pub posts-measure : (s : List ℕ) (z w : YardScan) (c : Scan) → (z .ok && stands s (z .at) (bytes " (")) ≡ true
-    → c ≡ readPost s (z .at) → w ≡ withPost z c → (z .at < length s) × (z .at < w .at)
-unfolding withPost
+    → c ≡ readPost s (z .at) → w ≡ postAdded z c → (z .at < length s) × (z .at < w .at)
+unfolding postAdded
 posts-measure s z w c t p q =
     let b = both (z .ok) _ t .1 in
     (omega (arith, stands-in s (bytes " (") (z .at) b), rw (q, p) (omega (arith, post-above s (z .at) b)))
 
 -- a post more
 pub posts-next : (s : List ℕ) (y z w : YardScan) (c : Scan) → PostsLeft s y z → (z .ok && stands s (z .at) (bytes " (")) ≡ true
-    → c ≡ readPost s (z .at) → w ≡ withPost z c → PostsLeft s y w
+    → c ≡ readPost s (z .at) → w ≡ postAdded z c → PostsLeft s y w
 unfolding postsRead
 posts-next s y z w c (zero, l, e) t p q = absurd (omega (arith, stands-in s (bytes " (") (z .at) (both (z .ok) _ t .1)))
 posts-next s y z w c (suc n, l, e) t p q = (n, omega (arith, posts-measure s z w c t p q), rw (q, p) (rw t at e))

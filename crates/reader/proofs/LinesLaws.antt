@@ -9,7 +9,7 @@ use lib.ListN.{length}
 use lib.Dec.{ltb, eqb}
 use borrow.Author.Tests.{lt-ltb, le-ltb, eqb-true, eq-eqb, ne-eqb}
 use Rattle.lines.proofs.Laws.{never, step-right}
-use Rattle.lines.specs.Lines.{yardLine, stepRefusal, lineAt, numberOf, nextOf, linesFrom, linesOf, judgedLines}
+use Rattle.lines.specs.Lines.{yardLine, stepLineRefusal, lineAt, numberOf, nextOf, linesFrom, linesOf, judgedLines}
 use Rattle.lines.specs.declared.YardScan.{YardScan}
 use Rattle.lines.specs.declared.Judged.{Judged}
 use Rattle.lines.specs.declared.Line.{Line}
@@ -17,7 +17,7 @@ use Rattle.lines.specs.declared.Line.the-variants.{Yard, Order, Hear, Beacon, R
 use Rattle.reader.proofs.Progress.{next-above}
 
 -- a step that is not refused has a lane and a word that fit
-pub step-small : (at l w k : ℕ) → k ≡ stepRefusal at l w → k ≡ 0 → (l < 8) × (w < 65536)
+pub step-small : (at l w k : ℕ) → k ≡ stepLineRefusal at l w → k ≡ 0 → (l < 8) × (w < 65536)
 step-small at l w k e h = let r = step-right at l w (sym e ∙ h) in (r .1, r .2)
 
 -- a line whose form is right, and its refusal

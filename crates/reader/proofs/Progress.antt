@@ -8,8 +8,8 @@ use lib.ListN.{length}
 use lib.Dec.{ltb, eqb}
 use Rattle.text.specs.Bytes.{bytes}
 use Rattle.lines.specs.Scan.{stands, digitAt, startAt, readText, firstDigit, nextDigit, readNumber}
-use Rattle.lines.specs.Forms.{orderForm, hearForm, beaconForm, rollForm, readForm, asRole, orRole, readRole, readPost, withPost, postsRead, readYard}
-use Rattle.lines.specs.Lines.{yardLine, stepRefusal, orderLine, hearLine, beaconLine, rollLine, yardOr, rollOr, beaconOr, hearOr, lineAt, nextOf}
+use Rattle.lines.specs.Forms.{orderForm, hearForm, beaconForm, rollForm, readForm, asRole, orRole, readRole, readPost, postAdded, postsRead, readYard}
+use Rattle.lines.specs.Lines.{yardLine, stepLineRefusal, orderLine, hearLine, beaconLine, rollLine, yardOr, rollOr, beaconOr, hearOr, lineAt, nextOf}
 use Rattle.lines.specs.declared.Scan.{Scan}
 use Rattle.lines.specs.declared.YardScan.{YardScan}
 use Rattle.lines.specs.declared.Line.{Line}
@@ -55,7 +55,7 @@ unfolding readText
 post-above s at e = post-on s at (at + 2) (rw e (omega arith))
 
 posts-on : (s : List ℕ) (n m : ℕ) (y : YardScan) → m ≤ y .at → m ≤ postsRead s y n .at
-unfolding postsRead withPost
+unfolding postsRead postAdded
 posts-on s zero m y h = h
 posts-on s (suc n) m y h =
     ways (λ (z : YardScan). m ≤ z .at) (y .ok && stands s (y .at) (bytes " (")) _ _ (λ e. posts-on s n m _ (post-on s (y .at) m (text-on s _ m _ h))) h
@@ -101,19 +101,19 @@ yard-after s at y h k = ways (After s at) (eqb at 0 && y .rising && ltb 0 (y .po
 
 order-after : (s : List ℕ) (at : ℕ) (c : Scan) → at < length s → Above s at (c .at) → After s at (orderLine at c)
 unfolding orderLine
-order-after s at c h k = ways (After s at) (eqb (stepRefusal at (c .earlier) (c .latest)) 0) _ _ (λ e. k) (h, omega arith)
+order-after s at c h k = ways (After s at) (eqb (stepLineRefusal at (c .earlier) (c .latest)) 0) _ _ (λ e. k) (h, omega arith)
 
 hear-after : (s : List ℕ) (at : ℕ) (c : Scan) → at < length s → Above s at (c .at) → After s at (hearLine at c)
 unfolding hearLine
-hear-after s at c h k = ways (After s at) (eqb (stepRefusal at (c .earlier) 0) 0) _ _ (λ e. k) (h, omega arith)
+hear-after s at c h k = ways (After s at) (eqb (stepLineRefusal at (c .earlier) 0) 0) _ _ (λ e. k) (h, omega arith)
 
 beacon-after : (s : List ℕ) (at : ℕ) (c : Scan) → at < length s → Above s at (c .at) → After s at (beaconLine at c)
 unfolding beaconLine
-beacon-after s at c h k = ways (After s at) (eqb (stepRefusal at (c .latest) 0) 0) _ _ (λ e. k) (h, omega arith)
+beacon-after s at c h k = ways (After s at) (eqb (stepLineRefusal at (c .latest) 0) 0) _ _ (λ e. k) (h, omega arith)
 
 roll-after : (s : List ℕ) (at : ℕ) (c : Scan) → at < length s → Above s at (c .at) → After s at (rollLine at c)
 unfolding rollLine
-roll-after s at c h k = ways (After s at) (eqb (stepRefusal at 0 0) 0) _ _ (λ e. k) (h, omega arith)
+roll-after s at c h k = ways (After s at) (eqb (stepLineRefusal at 0 0) 0) _ _ (λ e. k) (h, omega arith)
 
 after : (s : List ℕ) (at : ℕ) → at < length s → After s at (lineAt s at)
 unfolding lineAt hearOr beaconOr rollOr yardOr

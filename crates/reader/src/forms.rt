@@ -13,7 +13,7 @@ ghost use mathlib.Core.Bool.{_&&_};
 ghost use lib.ListN.{length};
 ghost use Rattle.text.specs.Bytes.{bytes};
 ghost use Rattle.lines.specs.Scan.{stands, failed};
-ghost use Rattle.lines.specs.Forms.{orderForm, hearForm, beaconForm, rollForm, readForm, asRole, orRole, readRole, readPost, bitOf, withPost, postsRead, noPosts, scanOf, ended, yardPosts, readYard};
+ghost use Rattle.lines.specs.Forms.{orderForm, hearForm, beaconForm, rollForm, readForm, asRole, orRole, readRole, readPost, bitOf, postAdded, postsRead, noPosts, scanOf, ended, yardPosts, readYard};
 
 // `(order LANE WORD)`
 pub(crate) fn read_order(s: &[u8], at: usize) -> Scan
@@ -75,7 +75,7 @@ fn read_posts(s: &[u8], y: YardScan) -> YardScan
     let mut z = y;
     let mut more = post_begins(s, y);
     while more {
-        z = with_post(z, read_post(s, z.at));
+        z = post_added(z, read_post(s, z.at));
         more = post_begins(s, z);
     }
     z
@@ -144,8 +144,8 @@ fn bit_of(lane: u32) -> u8
 }
 
 // A post more: its lane is at most 7 and above those before it just when its bit is above their set.
-fn with_post(y: YardScan, c: Scan) -> YardScan
-    ensures { λ r. ⌜ r ≡ withPost y c ⌝ }
+fn post_added(y: YardScan, c: Scan) -> YardScan
+    ensures { λ r. ⌜ r ≡ postAdded y c ⌝ }
 {
     let bit = bit_of(c.earlier);
     let source = pick((c.latest == 1) | (c.latest == 3), bit, 0);

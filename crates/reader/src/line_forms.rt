@@ -9,12 +9,12 @@ ghost use mathlib.Core.Path.{_≡_};
 ghost use mathlib.Core.Bool.{cond};
 ghost use Prim.Native.Nat.{_<_};
 ghost use Rattle.lines.specs.Forms.{orderForm, hearForm, beaconForm, rollForm, readForm};
-ghost use Rattle.lines.specs.Lines.{stepRefusal, orderLine, hearLine, beaconLine, rollLine, yardOr};
+ghost use Rattle.lines.specs.Lines.{stepLineRefusal, orderLine, hearLine, beaconLine, rollLine, yardOr};
 ghost use Rattle.lines.specs.declared.Line.the-variants.{Refused};
 
 // Refusals 3, 4 and 5 of a step.
-fn step_refusal(at: usize, lane: u32, word: u32) -> u8
-    ensures { λ r. ⌜ r ≡ stepRefusal at lane word ⌝ }
+fn step_line_refusal(at: usize, lane: u32, word: u32) -> u8
+    ensures { λ r. ⌜ r ≡ stepLineRefusal at lane word ⌝ }
 {
     if at == 0 {
         return 3;
@@ -34,7 +34,7 @@ pub(crate) fn order_or_refused(s: &[u8], at: usize) -> Line
 {
     let c = read_order(s, at);
     if c.ok {
-        let number = step_refusal(at, c.earlier, c.latest);
+        let number = step_line_refusal(at, c.earlier, c.latest);
         if number == 0 {
             Line::Order {
                 lane: c.earlier as u8,
@@ -55,7 +55,7 @@ pub(crate) fn hear_or_refused(s: &[u8], at: usize) -> Line
 {
     let c = read_hear(s, at);
     if c.ok {
-        let number = step_refusal(at, c.earlier, 0);
+        let number = step_line_refusal(at, c.earlier, 0);
         if number == 0 {
             Line::Hear {
                 lane: c.earlier as u8,
@@ -76,7 +76,7 @@ pub(crate) fn beacon_or_refused(s: &[u8], at: usize) -> Line
 {
     let c = read_beacon(s, at);
     if c.ok {
-        let number = step_refusal(at, c.latest, 0);
+        let number = step_line_refusal(at, c.latest, 0);
         if number == 0 {
             Line::Beacon {
                 lane: c.latest as u8,
@@ -96,7 +96,7 @@ pub(crate) fn roll_or_refused(s: &[u8], at: usize) -> Line
 {
     let c = read_roll(s, at);
     if c.ok {
-        let number = step_refusal(at, 0, 0);
+        let number = step_line_refusal(at, 0, 0);
         if number == 0 {
             Line::Roll { next: c.at }
         } else {

@@ -13,9 +13,9 @@ use Rattle.post.specs.declared.Post.{Post}
 use Rattle.yard.specs.declared.Yard.{Yard}
 use Rattle.yard.specs.Yards.{noPost, postAt}
 use Rattle.yard.specs.Singles.{withPost, yardHears, yardHearsAir}
-use Rattle.yard.specs.Worlds.{World, Single, hear, single, singles}
+use Rattle.yard.specs.Worlds.{World, Single, hear, single, singles, worldOf}
 use Rattle.roll.specs.RollCall.{laneHears, lanesHears, sourcesBelow, beaconsHeard}
-use Rattle.roll.specs.Loops.{PostWorld, postWorld, hearing, hearings, world, serials, laneFrames, lanesFrames, beaconFrames}
+use Rattle.roll.specs.Loops.{PostWorld, postWorld, hearing, hearings, serials, laneFrames, lanesFrames, beaconFrames}
 
 -- ---- one list after another, and one step
 
@@ -95,7 +95,7 @@ withPosts y posts frames = record {
 module _ (y : Yard) (lane : ℕ) (low : lane < 8) (eight : length (y .posts) ≡ 8) where
   -- the yard with this post in its lane
   abbrev pub inYard : PostWorld → World
-  inYard s = world (withPost y lane (s .post) (s .frames)) (s .air)
+  inYard s = worldOf (withPost y lane (s .post) (s .frames)) (s .air)
 
   -- one hearing
   hear-one : (s : PostWorld) (k : ℕ) → single (inYard s) (hear lane k) ≡ inYard (hearing s k)
@@ -110,7 +110,7 @@ module _ (y : Yard) (lane : ℕ) (low : lane < 8) (eight : length (y .posts) ≡
 
   -- from the record that the yard has in this lane
   pub hearings-in-yard : (air : List ℕ) (l : List ℕ)
-      → singles (world y air) (map (hear lane) l) ≡ inYard (hearings (postWorld (postAt y lane) (y .frames) air) l)
+      → singles (worldOf y air) (map (hear lane) l) ≡ inYard (hearings (postWorld (postAt y lane) (y .frames) air) l)
   hearings-in-yard air l =
-      ap (λ (posts : List Post). singles (world (withPosts y posts (y .frames)) air) (map (hear lane) l)) (sym (set-getD (y .posts) lane noPost))
+      ap (λ (posts : List Post). singles (worldOf (withPosts y posts (y .frames)) air) (map (hear lane) l)) (sym (set-getD (y .posts) lane noPost))
       ∙ hear-all (postWorld (postAt y lane) (y .frames) air) l

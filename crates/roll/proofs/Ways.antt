@@ -9,19 +9,19 @@ use borrow.Author.Tests.{eq-eqb, ne-eqb, eqb-true, lt-ltb, le-ltb}
 use lib.Count.{ones}
 use lib.ListN.{length, length-append}
 use Rattle.yard.specs.declared.Yard.{Yard}
-use Rattle.yard.specs.Worlds.{World, singles}
+use Rattle.yard.specs.Worlds.{World, singles, worldOf}
 use Rattle.roll.specs.declared.RollAnswer as calling
 use Rattle.roll.specs.declared.RollCalled.{RollCalled}
 use Rattle.roll.specs.declared.YardRan.{YardRan}
 use Rattle.roll.specs.RollCall.{postsHear, beaconsSent, postsHearBeacons, rollSteps, rollRefusal, rollCall, rollLength, rollCallAir}
 use Rattle.roll.specs.Answers.{rollNumber, rollCount}
-use Rattle.roll.specs.Loops.{world, yardRan}
+use Rattle.roll.specs.Loops.{yardRan}
 use Rattle.roll.proofs.RunLaws.{singles-append}
 
 module _ (y : Yard) (air : List ℕ) where
   -- what the call finds
   abbrev found : World
-  found = world y air
+  found = worldOf y air
 
   -- the air has another length
   pub call-13 : (length air ≡ 65536 → ⊥)
@@ -69,10 +69,10 @@ module _ (y : Yard) (air : List ℕ) where
   -- the three parts of the list
   pub run-all : (heard sent done : YardRan) (air₁ air₂ air₃ : List ℕ)
       → heard ≡ yardRan found (postsHear y 8) → air₁ ≡ singles found (postsHear y 8) .air
-      → sent ≡ yardRan (world (heard .yard) air₁) (beaconsSent (y .sources) 8)
-      → air₂ ≡ singles (world (heard .yard) air₁) (beaconsSent (y .sources) 8) .air
-      → done ≡ yardRan (world (sent .yard) air₂) (postsHearBeacons (y .present) (y .sources) (heard .yard .frames) 8)
-      → air₃ ≡ singles (world (sent .yard) air₂) (postsHearBeacons (y .present) (y .sources) (heard .yard .frames) 8) .air
+      → sent ≡ yardRan (worldOf (heard .yard) air₁) (beaconsSent (y .sources) 8)
+      → air₂ ≡ singles (worldOf (heard .yard) air₁) (beaconsSent (y .sources) 8) .air
+      → done ≡ yardRan (worldOf (sent .yard) air₂) (postsHearBeacons (y .present) (y .sources) (heard .yard .frames) 8)
+      → air₃ ≡ singles (worldOf (sent .yard) air₂) (postsHearBeacons (y .present) (y .sources) (heard .yard .frames) 8) .air
       → (_≡_ {A = YardRan} (record { yard = done .yard; steps = heard .steps + sent .steps + done .steps }) (yardRan found (rollSteps found)))
       × (air₃ ≡ singles found (rollSteps found) .air)
   unfolding rollSteps

@@ -42,9 +42,6 @@ hearings s (k ∷ l) = hearings (hearing s k) l
 abbrev pub postRan : PostWorld → List ℕ → PostRan
 postRan s l = record { post = hearings s l .post; frames = hearings s l .frames; steps = length l }
 
-abbrev pub world : Yard → List ℕ → World
-world y air = record { yard = y; air = air }
-
 -- what a list of single steps leaves, and how many they are
 abbrev pub yardRan : World → List Single → YardRan
 yardRan w l = record { yard = singles w l .yard; steps = length l }

@@ -7,10 +7,10 @@ ghost use mathlib.Core.Path.{_≡_};
 ghost use Prim.Native.Nat.{_-_, _≤_};
 ghost use lib.ListN.{getD};
 ghost use Rattle.cells.specs.Tables.{orderPlace};
-ghost use Rattle.yard.specs.Worlds.{singles};
+ghost use Rattle.yard.specs.Worlds.{singles, worldOf};
 ghost use Rattle.roll.specs.RollCall.{postsHear, beaconsSent, postsHearBeacons, rollSteps, rollRefusal, rollCall, rollLength, rollCallAir};
 ghost use Rattle.roll.specs.Answers.{rollNumber, rollCount};
-ghost use Rattle.roll.specs.Loops.{postWorld, hearings, postRan, world, yardRan, serials, laneFrames, lanesFrames, beaconFrames};
+ghost use Rattle.roll.specs.Loops.{postWorld, hearings, postRan, yardRan, serials, laneFrames, lanesFrames, beaconFrames};
 
 // How many single steps the call ran, or the refusal (13, 27).
 pub enum RollAnswer {
@@ -77,8 +77,8 @@ fn beacons_left(beacons: u16) -> u16
 
 // The call's single steps, one after another.
 fn run_steps(y: Yard, air: &mut [u8]) -> YardRan
-    ensures { λ r. ⌜ r ≡ yardRan (world y (now (air .entry))) (rollSteps (world y (now (air .entry)))) ⌝ }
-    ensures bytes { λ _. ⌜ now (air .exit) ≡ singles (world y (now (air .entry))) (rollSteps (world y (now (air .entry)))) .air ⌝ }
+    ensures { λ r. ⌜ r ≡ yardRan (worldOf y (now (air .entry))) (rollSteps (worldOf y (now (air .entry)))) ⌝ }
+    ensures bytes { λ _. ⌜ now (air .exit) ≡ singles (worldOf y (now (air .entry))) (rollSteps (worldOf y (now (air .entry)))) .air ⌝ }
 {
     let heard = hear_orders(y, air);
     let yard = heard.yard;
@@ -95,8 +95,8 @@ fn run_steps(y: Yard, air: &mut [u8]) -> YardRan
 
 // Each post in rising lane order hears the first frame of every order of the other lanes.
 fn hear_orders(y: Yard, air: &mut [u8]) -> YardRan
-    ensures { λ r. ⌜ r ≡ yardRan (world y (now (air .entry))) (postsHear y 8) ⌝ }
-    ensures bytes { λ _. ⌜ now (air .exit) ≡ singles (world y (now (air .entry))) (postsHear y 8) .air ⌝ }
+    ensures { λ r. ⌜ r ≡ yardRan (worldOf y (now (air .entry))) (postsHear y 8) ⌝ }
+    ensures bytes { λ _. ⌜ now (air .exit) ≡ singles (worldOf y (now (air .entry))) (postsHear y 8) .air ⌝ }
     ensures bound { λ r. ⌜ r .steps ≤ 16320 ⌝ }
 {
     let present = y.present;
@@ -206,8 +206,8 @@ fn first_frame(first: &[u16; 128], q: u8, serial: u8) -> usize
 
 // Each source in rising order sends a beacon.
 fn send_beacons(y: Yard, air: &mut [u8], sources: u8) -> YardRan
-    ensures { λ r. ⌜ r ≡ yardRan (world y (now (air .entry))) (beaconsSent sources 8) ⌝ }
-    ensures bytes { λ _. ⌜ now (air .exit) ≡ singles (world y (now (air .entry))) (beaconsSent sources 8) .air ⌝ }
+    ensures { λ r. ⌜ r ≡ yardRan (worldOf y (now (air .entry))) (beaconsSent sources 8) ⌝ }
+    ensures bytes { λ _. ⌜ now (air .exit) ≡ singles (worldOf y (now (air .entry))) (beaconsSent sources 8) .air ⌝ }
     ensures bound { λ r. ⌜ r .steps ≤ 8 ⌝ }
 {
     let mut frames = y.frames;
@@ -233,8 +233,8 @@ fn send_beacons(y: Yard, air: &mut [u8], sources: u8) -> YardRan
 
 // Each post in rising order hears those beacons except its own; the first of them is frame `from`.
 fn hear_beacons(y: Yard, air: &mut [u8], present: u8, sources: u8, from: u16) -> YardRan
-    ensures { λ r. ⌜ r ≡ yardRan (world y (now (air .entry))) (postsHearBeacons present sources from 8) ⌝ }
-    ensures bytes { λ _. ⌜ now (air .exit) ≡ singles (world y (now (air .entry))) (postsHearBeacons present sources from 8) .air ⌝ }
+    ensures { λ r. ⌜ r ≡ yardRan (worldOf y (now (air .entry))) (postsHearBeacons present sources from 8) ⌝ }
+    ensures bytes { λ _. ⌜ now (air .exit) ≡ singles (worldOf y (now (air .entry))) (postsHearBeacons present sources from 8) .air ⌝ }
     ensures bound { λ r. ⌜ r .steps ≤ 64 ⌝ }
 {
     let mut posts = y.posts;

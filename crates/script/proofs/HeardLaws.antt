@@ -15,12 +15,12 @@ use Rattle.post.specs.declared.Head.{Head}
 use Rattle.post.specs.declared.Post.{Post}
 use Rattle.post.specs.Record.{postOf}
 use Rattle.deliver.specs.Known.{Known}
-use Rattle.yard.specs.Worlds.{hear, singles}
+use Rattle.yard.specs.Worlds.{hear, singles, worldOf}
 use Rattle.lane_steps.specs.InPlace.{Left, heardIn}
 use Rattle.lane_steps.proofs.Roles.{heard-roles}
 use Rattle.lane_steps.proofs.SameSteps.{same-hearing}
 use Rattle.roll.specs.RollCall.{sourcesBelow}
-use Rattle.roll.specs.Loops.{hearing, hearings, world, laneFrames, lanesFrames, beaconFrames}
+use Rattle.roll.specs.Loops.{hearing, hearings, laneFrames, lanesFrames, beaconFrames}
 use Rattle.roll.proofs.RunLaws.{hearings-append, hearings-one, hearings-in-yard}
 use Rattle.script.specs.declared.Sets.{Sets}
 use Rattle.script.specs.Rows.{Rows, rowPost, rowPosts, rowsYard, Good, withRow, HeardAll}
@@ -133,7 +133,7 @@ module _ (s : Sets) (R : Rows) (i : ℕ) (low : i < 8) (good : Good s R) (frames
     -- the hearings of one lane's post are hearings in the yard
     pub hearings-row : HeardAll (rowPost s R i) (postOf h last table stamps words log) known frames fr air exit ks
         → ((beacons : ℕ) (first : List ℕ)
-        → world (rowsYard s after fr beacons first) exit ≡ singles (world (rowsYard s R frames beacons first) air) (map (hear i) ks))
+        → worldOf (rowsYard s after fr beacons first) exit ≡ singles (worldOf (rowsYard s R frames beacons first) air) (map (hear i) ks))
         × Good s after
     unfolding rowPosts
     hearings-row heard =
@@ -150,18 +150,18 @@ module _ (s : Sets) (R : Rows) (i : ℕ) (low : i < 8) (good : Good s R) (frames
 -- another post, or none
 pub post-heard : (s : Sets) (R : Rows) (frames fr : ℕ) (air exit ks : List ℕ) (i : ℕ) (b : Bool) (A : Rows) → b ≡ hasLane (s .present) i → b ≡ true
     → ((beacons : ℕ) (first : List ℕ)
-    → world (rowsYard s A fr beacons first) exit ≡ singles (world (rowsYard s R frames beacons first) air) (map (hear i) ks))
+    → worldOf (rowsYard s A fr beacons first) exit ≡ singles (worldOf (rowsYard s R frames beacons first) air) (map (hear i) ks))
     × Good s A
     → ((beacons : ℕ) (first : List ℕ)
-    → world (rowsYard s A fr beacons first) exit
-    ≡ singles (world (rowsYard s R frames beacons first) air) (cond (hasLane (s .present) i) (map (hear i) ks) []))
+    → worldOf (rowsYard s A fr beacons first) exit
+    ≡ singles (worldOf (rowsYard s R frames beacons first) air) (cond (hasLane (s .present) i) (map (hear i) ks) []))
     × Good s A
 post-heard s R frames fr air exit ks i b A e t h = ((λ beacons first. rw (sym e ∙ t) (h .0 beacons first)), h .1)
 
 pub no-post : (s : Sets) (R : Rows) (frames : ℕ) (air ks : List ℕ) (i : ℕ) (b : Bool) → b ≡ hasLane (s .present) i → b ≡ false → Good s R
     → ((beacons : ℕ) (first : List ℕ)
-    → world (rowsYard s R frames beacons first) air
-    ≡ singles (world (rowsYard s R frames beacons first) air) (cond (hasLane (s .present) i) (map (hear i) ks) []))
+    → worldOf (rowsYard s R frames beacons first) air
+    ≡ singles (worldOf (rowsYard s R frames beacons first) air) (cond (hasLane (s .present) i) (map (hear i) ks) []))
     × Good s R
 unfolding singles
 no-post s R frames air ks i b e t g = ((λ beacons first. rw (sym e ∙ t)), g)

@@ -14,11 +14,11 @@ use Rattle.lines.specs.declared.Line.{Line}
 use Rattle.lines.specs.Lines.{lineAt, nextOf, linesFrom}
 use Rattle.reader.proofs.Progress.{next-above}
 use Rattle.yard.specs.declared.Yard.{Yard}
-use Rattle.yard.specs.Worlds.{World}
+use Rattle.yard.specs.Worlds.{World, worldOf}
 use Rattle.roll.specs.Runs.{run}
 use Rattle.meaning.specs.Texts.{refusedText}
 use Rattle.meaning.specs.Script.{stepOf, refusalOf, worldAfter, refusedLines}
-use Rattle.script.specs.Lines.{world, rest}
+use Rattle.script.specs.Lines.{rest}
 
 -- the line at a place
 lines-one : (s : List ℕ) (at n : ℕ) → at < length s → linesFrom s at (suc n) ≡ lineAt s at ∷ linesFrom s (nextOf s (lineAt s at)) n
@@ -80,11 +80,11 @@ rest-more s at h = go (length s) refl
 
 -- one line more
 pub left-more : (s : List ℕ) (w₀ : World) (from : ℕ) (o₀ : Out) (y y′ : Yard) (air exit : List ℕ) (at line next n : ℕ) (o p : Out) (l : Line)
-    → at < length s → l ≡ lineAt s at → n ≡ refusalOf (world y air) (stepOf l) → y′ ≡ run (world y air) (stepOf l) .yard
-    → exit ≡ run (world y air) (stepOf l) .air → p ≡ wrote o (given (not (eqb n 0)) (refusedText (line + 1) n)) → next ≡ nextOf s l
-    → Left s w₀ from o₀ (world y air) at line o → Left s w₀ from o₀ (world y′ exit) next (line + 1) p
+    → at < length s → l ≡ lineAt s at → n ≡ refusalOf (worldOf y air) (stepOf l) → y′ ≡ run (worldOf y air) (stepOf l) .yard
+    → exit ≡ run (worldOf y air) (stepOf l) .air → p ≡ wrote o (given (not (eqb n 0)) (refusedText (line + 1) n)) → next ≡ nextOf s l
+    → Left s w₀ from o₀ (worldOf y air) at line o → Left s w₀ from o₀ (worldOf y′ exit) next (line + 1) p
 left-more s w₀ from o₀ y y′ air exit at line next n o p l h el en ey ex ep ef left =
     let lines = rest-more s at h in
-    let world-left = sym (world-one (world y air) (lineAt s at) _) ∙ rw lines at (left .0) in
-    let text-left = sym (refused-one o (world y air) line (lineAt s at) _) ∙ rw lines at (left .1) in
+    let world-left = sym (world-one (worldOf y air) (lineAt s at) _) ∙ rw lines at (left .0) in
+    let text-left = sym (refused-one o (worldOf y air) line (lineAt s at) _) ∙ rw lines at (left .1) in
     rw (ep, ex, ef, ey, en, el) (world-left, text-left)

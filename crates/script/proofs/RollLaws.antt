@@ -13,10 +13,10 @@ use Rattle.cells.specs.Sets.{hasLane}
 use Rattle.yard.specs.declared.Yard.{Yard}
 use Rattle.yard.specs.declared.PostBeaconed.{PostBeaconed}
 use Rattle.yard.specs.Singles.{postBeacons, postBeaconsAir, yardBeacons, yardBeaconsAir}
-use Rattle.yard.specs.Worlds.{World, hear, beacon, single, singles}
+use Rattle.yard.specs.Worlds.{World, hear, beacon, single, singles, worldOf}
 use Rattle.roll.specs.Answers.{rollNumber}
 use Rattle.roll.specs.RollCall.{postsHear, beaconsSent, postsHearBeacons, rollSteps, rollCall, rollCallAir}
-use Rattle.roll.specs.Loops.{world, yardRan, serials, lanesFrames, beaconFrames}
+use Rattle.roll.specs.Loops.{yardRan, serials, lanesFrames, beaconFrames}
 use Rattle.roll.proofs.RunLaws.{singles-append, singles-one, lanes-hears, beacons-heard}
 use Rattle.roll.proofs.Ways.{call-13, call-27, call-runs}
 use Rattle.script.specs.declared.Sets.{Sets}
@@ -76,13 +76,13 @@ module _ (w₀ w w′ : World) where
 -- a beacon of lane i
 pub sent-one : (s : Sets) (R : Rows) (i frames beacons : ℕ) (first air exit : List ℕ) (b : Bool) (d : PostBeaconed) → i < 8 → b ≡ hasLane (s .sources) i
     → b ≡ true → d ≡ postBeacons air (rowPost s R i) frames beacons → exit ≡ postBeaconsAir air (rowPost s R i) frames beacons
-    → world (rowsYard s R (d .frames) (d .beacons) first) exit
-    ≡ singles (world (rowsYard s R frames beacons first) air) (cond (hasLane (s .sources) i) (beacon i ∷ []) [])
+    → worldOf (rowsYard s R (d .frames) (d .beacons) first) exit
+    ≡ singles (worldOf (rowsYard s R frames beacons first) air) (cond (hasLane (s .sources) i) (beacon i ∷ []) [])
 unfolding single yardBeacons yardBeaconsAir
 sent-one s R i frames beacons first air exit b d low e t ed ex = rw (sym e ∙ t, singles-one, lt-ltb i 8 low, row-at s R i low, ed, ex)
 
 pub sent-none : (s : Sets) (y : Yard) (i : ℕ) (air : List ℕ) (b : Bool) → b ≡ hasLane (s .sources) i → b ≡ false
-    → world y air ≡ singles (world y air) (cond (hasLane (s .sources) i) (beacon i ∷ []) [])
+    → worldOf y air ≡ singles (worldOf y air) (cond (hasLane (s .sources) i) (beacon i ∷ []) [])
 unfolding singles
 sent-none s y i air b e t = rw (sym e ∙ t)
 
@@ -90,7 +90,7 @@ sent-none s y i air b e t = rw (sym e ∙ t)
 
 module _ (s : Sets) (R : Rows) (frames beacons : ℕ) (first air : List ℕ) where
   abbrev found : World
-  found = world (rowsYard s R frames beacons first) air
+  found = worldOf (rowsYard s R frames beacons first) air
 
   pub rows-13 : (length air ≡ 65536 → ⊥)
       → (13 ≡ rollNumber (rollCall found .answer)) × (rowsYard s R frames beacons first ≡ rollCall found .yard) × (air ≡ rollCallAir found)
@@ -101,13 +101,13 @@ module _ (s : Sets) (R : Rows) (frames beacons : ℕ) (first air : List ℕ) whe
   rows-27 left good e few = let c = call-27 (rowsYard s R frames beacons first) air left good e few in (rw (← (c .0)), rw (← (c .0)), c .1)
 
   pub rows-run : (left f₁ f₂ f₃ b₂ : ℕ) (R₁ R₃ : Rows) (a₁ a₂ a₃ : List ℕ) → length air ≡ 65536 → left ≡ 1024 - beacons → ones (s .sources) ≤ left
-      → world (rowsYard s R₁ f₁ beacons first) a₁ ≡ singles found (postsHear (rowsYard s R frames beacons first) 8)
-      → world (rowsYard s R₁ f₂ b₂ first) a₂ ≡ singles (world (rowsYard s R₁ f₁ beacons first) a₁) (beaconsSent (s .sources) 8)
-      → world (rowsYard s R₃ f₃ b₂ first) a₃ ≡ singles (world (rowsYard s R₁ f₂ b₂ first) a₂) (postsHearBeacons (s .present) (s .sources) f₁ 8)
+      → worldOf (rowsYard s R₁ f₁ beacons first) a₁ ≡ singles found (postsHear (rowsYard s R frames beacons first) 8)
+      → worldOf (rowsYard s R₁ f₂ b₂ first) a₂ ≡ singles (worldOf (rowsYard s R₁ f₁ beacons first) a₁) (beaconsSent (s .sources) 8)
+      → worldOf (rowsYard s R₃ f₃ b₂ first) a₃ ≡ singles (worldOf (rowsYard s R₁ f₂ b₂ first) a₂) (postsHearBeacons (s .present) (s .sources) f₁ 8)
       → (0 ≡ rollNumber (rollCall found .answer)) × (rowsYard s R₃ f₃ b₂ first ≡ rollCall found .yard) × (a₃ ≡ rollCallAir found)
   unfolding rollSteps
   rows-run left f₁ f₂ f₃ b₂ R₁ R₃ a₁ a₂ a₃ good e enough e₁ e₂ e₃ =
-      let all : world (rowsYard s R₃ f₃ b₂ first) a₃ ≡ singles found (rollSteps found)
+      let all : worldOf (rowsYard s R₃ f₃ b₂ first) a₃ ≡ singles found (rollSteps found)
       = rw (singles-append, singles-append, ← e₁, ← e₂) e₃
       in
       let c = call-runs (rowsYard s R frames beacons first) air left (yardRan found (rollSteps found)) (singles found (rollSteps found) .air) good e enough refl refl in (

@@ -13,7 +13,7 @@ use Rattle.deliver.specs.Known.{Known}
 use Rattle.laws.proofs.TestLaws.{same-or-not}
 use Rattle.yard.specs.Yards.{noPost}
 use Rattle.script.specs.declared.Sets.{Sets}
-use Rattle.script.specs.Rows.{Rows, headOf, rowPost, rowKnown, rowPosts, Eight, Good, withRow}
+use Rattle.script.specs.Rows.{Rows, rowHead, rowPost, rowKnown, rowPosts, Eight, Good, withRow}
 
 -- ---- a post for each lane
 
@@ -50,7 +50,7 @@ module _ (s : Sets) (R : Rows) (i : ℕ) (low : i < 8) where
     after = withRow R i clock serial logged last table stamps words log known
 
     abbrev post : Post
-    post = postOf (headOf s i clock serial logged) last table stamps words log
+    post = postOf (rowHead s i clock serial logged) last table stamps words log
 
     pub row-same : Eight R → rowPost s after i ≡ post
     row-same e =

@@ -19,13 +19,13 @@ use Rattle.lane_steps.specs.InPlace.{Left, SameRoles, orderedIn, heardIn}
 use Rattle.lane_steps.proofs.Roles.{ordered-roles, heard-roles}
 use Rattle.lane_steps.proofs.SameSteps.{same-order, same-hearing}
 use Rattle.script.specs.declared.Sets.{Sets}
-use Rattle.script.specs.Rows.{Rows, headOf, rowPost, rowKnown, rowPosts, rowsYard, Good, withRow}
+use Rattle.script.specs.Rows.{Rows, rowHead, rowPost, rowKnown, rowPosts, rowsYard, Good, withRow}
 use Rattle.script.proofs.RowLaws.{row-at, rows-after, good-after}
 
 -- the numbers of a post that keeps its roles are those of its lane
 lane-head : (s : Sets) (i : ℕ) (p : Post) (h : Head) (last table stamps words log : List ℕ) → p .lane ≡ i → p .posts ≡ s .present → p .sources ≡ s .sources
     → p .dests ≡ s .dests → SameRoles p (postOf h last table stamps words log)
-    → h ≡ headOf s i (h .clock .0) (h .serial .0) (h .logged)
+    → h ≡ rowHead s i (h .clock .0) (h .serial .0) (h .logged)
 lane-head s i p h last table stamps words log el ep es ed r = rw (← el, ← ep, ← es, ← ed, ← (r .0), ← (r .1), ← (r .2), ← (r .3))
 
 module _ (s : Sets) (R : Rows) (i : ℕ) (low : i < 8) (good : Good s R) (frames fr n : ℕ) (air exit : List ℕ) (h : Head)
@@ -45,8 +45,8 @@ module _ (s : Sets) (R : Rows) (i : ℕ) (low : i < 8) (good : Good s R) (frames
     pub posts-so : (q : Post) → SameRoles (rowPost s R i) (postOf h last table stamps words log) → postOf h last table stamps words log ≡ q → Known known q
         → (rowPosts s after ≡ set (rowPosts s R) i q) × Good s after
     posts-so q r e k =
-        let eh : h ≡ headOf s i (h .clock .0) (h .serial .0) (h .logged) = lane-head s i (rowPost s R i) h last table stamps words log refl refl refl refl r in
-        let ep : postOf (headOf s i (h .clock .0) (h .serial .0) (h .logged)) last table stamps words log ≡ q
+        let eh : h ≡ rowHead s i (h .clock .0) (h .serial .0) (h .logged) = lane-head s i (rowPost s R i) h last table stamps words log refl refl refl refl r in
+        let ep : postOf (rowHead s i (h .clock .0) (h .serial .0) (h .logged)) last table stamps words log ≡ q
         = ap (λ (x : Head). postOf x last table stamps words log) (sym eh) ∙ e
         in (
           rows-after s R i low (h .clock .0) (h .serial .0) (h .logged) last table stamps words log known (good .eight) ∙ ap (set (rowPosts s R) i) ep,

@@ -18,7 +18,7 @@ use Rattle.post.specs.declared.Post.{Post}
 use Rattle.deliver.specs.Known.{Known}
 use Rattle.deliver.proofs.KnownLaws.{known-none}
 use Rattle.yard.specs.Yards.{freshYard}
-use Rattle.yard.specs.Worlds.{World}
+use Rattle.yard.specs.Worlds.{World, worldOf}
 use Rattle.meaning.specs.Texts.{badText, postsText}
 use Rattle.meaning.specs.Script.{yardOf, worldAfter, refusedLines, scriptWorld, scriptText, printout, airAfter}
 use Rattle.fits.proofs.Theorem.{fits}
@@ -29,7 +29,7 @@ use Rattle.agreement.proofs.Theorem.{agreement}
 use Rattle.roll.specs.Runs.{run}
 use Rattle.script.specs.Run.{bytesPrinted, outputAfter, airLeft}
 use Rattle.script.specs.declared.Sets.{Sets}
-use Rattle.script.specs.Lines.{world, setsOf, rest}
+use Rattle.script.specs.Lines.{setsOf, rest}
 use Rattle.script.specs.Rows.{Rows, rows, rowPost, rowKnown, rowPosts, rowsYard, Good, Reached}
 
 -- a script that is not refused has 1 to 48,000 bytes
@@ -88,7 +88,7 @@ zero-good st = record {
 
 -- so demand 3 holds of it
 fresh-reached : (s air : List ℕ) (st : Sets) (k : Line) → lineAt s 0 ≡ k → numberOf k ≡ 0 → st ≡ setsOf k
-    → Reached (world (freshYard (st .present) (st .sources) (st .dests)) air)
+    → Reached (worldOf (freshYard (st .present) (st .sources) (st .dests)) air)
 unfolding run
 fresh-reached s air st (Yard posts sources dests next) e z es =
     let r = accepted s 0 (Yard posts sources dests next) e refl .0 in
@@ -108,7 +108,7 @@ fresh-reached s air st (Roll next) e z es = absurd (omega (arith, accepted s 0 (
 fresh-reached s air st (Refused number) e z es = absurd (accepted s 0 (Refused number) e z .0)
 
 pub first-reached : (s air : List ℕ) (l : Line) (st : Sets) → judged s .number ≡ 0 → l ≡ lineAt s 0 → st ≡ setsOf l
-    → Reached (world (rowsYard st zeroRows 0 0 (replicate 128 0)) air)
+    → Reached (worldOf (rowsYard st zeroRows 0 0 (replicate 128 0)) air)
 first-reached s air l st good el es =
     let r = fresh-reached s air st (lineAt s 0) refl (accepted-first s good) (es ∙ ap setsOf el) in
     rw (rows-fresh st) r
@@ -116,8 +116,8 @@ first-reached s air l st good el es =
 -- the steps, then the posts
 pub good-ran : (s air exit output first : List ℕ) (l : Line) (st : Sets) (from fr be : ℕ) (R : Rows) (o p : Out)
     → judged s .number ≡ 0 → l ≡ lineAt s 0 → st ≡ setsOf l → from ≡ nextOf s l
-    → world (rowsYard st R fr be first) exit ≡ worldAfter (world (rowsYard st zeroRows 0 0 (replicate 128 0)) air) (rest s from)
-    → o ≡ wrote (out output 0) (refusedLines (world (rowsYard st zeroRows 0 0 (replicate 128 0)) air) 1 (rest s from))
+    → worldOf (rowsYard st R fr be first) exit ≡ worldAfter (worldOf (rowsYard st zeroRows 0 0 (replicate 128 0)) air) (rest s from)
+    → o ≡ wrote (out output 0) (refusedLines (worldOf (rowsYard st zeroRows 0 0 (replicate 128 0)) air) 1 (rest s from))
     → p ≡ wrote o (postsText (rowsYard st R fr be first) 8)
     → (p ≡ wrote (out output 0) (scriptText s air)) × (exit ≡ scriptWorld s air .air)
 unfolding scriptText scriptWorld
@@ -126,7 +126,7 @@ good-ran s air exit output first l st from fr be R o p good el es ef et eo ep =
     = fresh-first s st (lineAt s 0) refl (accepted-first s good) (es ∙ ap setsOf el) ∙ sym (rows-fresh st)
     in
     let both = next (out output 0) _ _ eo ep in
-    let ey : rowsYard st R fr be first ≡ worldAfter (world (rowsYard st zeroRows 0 0 (replicate 128 0)) air) (rest s from) .yard = ap (λ (w : World). w .yard) et in
+    let ey : rowsYard st R fr be first ≡ worldAfter (worldOf (rowsYard st zeroRows 0 0 (replicate 128 0)) air) (rest s from) .yard = ap (λ (w : World). w .yard) et in
     rw (e, ← el, ← ef) (rw ey at both, ap (λ (w : World). w .air) et)
 
 -- the printout and the air of a script that is not refused, and of one that is

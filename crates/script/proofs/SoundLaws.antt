@@ -18,9 +18,9 @@ use Rattle.steps.specs.Answers.{hearNumber}
 use Rattle.yard.specs.declared.Yard.{Yard}
 use Rattle.yard.specs.Yards.{noPost, postAt}
 use Rattle.yard.specs.Singles.{stopsHearing, frameAt, postHears, postHearsAir, withPost, yardHears, yardHearsAir}
-use Rattle.yard.specs.Worlds.{World, Single, hear, single, singles}
+use Rattle.yard.specs.Worlds.{World, Single, hear, single, singles, worldOf}
 use Rattle.roll.specs.Runs.{Step, one, answer, step, run}
-use Rattle.roll.specs.Loops.{postWorld, hearings, world}
+use Rattle.roll.specs.Loops.{postWorld, hearings}
 use Rattle.roll.proofs.RunLaws.{hearings-in-yard}
 use Rattle.agreement.specs.YardRefusals.{hearYardRefusal}
 use Rattle.lane_steps.specs.InPlace.{hearStopped}
@@ -48,7 +48,7 @@ reached-run w l r = record {
 }
 
 -- the world that a line's step leaves
-pub reached-line : (w : World) (l : List Step) (y : Yard) (air : List ℕ) → y ≡ run w l .yard → air ≡ run w l .air → Reached w → Reached (world y air)
+pub reached-line : (w : World) (l : List Step) (y : Yard) (air : List ℕ) → y ≡ run w l .yard → air ≡ run w l .air → Reached w → Reached (worldOf y air)
 reached-line w l y air ey ea r = rw (ey, ea) (reached-run w l r)
 
 singles-run : (w : World) (l : List Single) → singles w l ≡ run w (map one l)
@@ -98,9 +98,9 @@ module _ (p : Post) (frames : ℕ) (air : List ℕ) (k : ℕ) (st : Stands p fra
   unfolding hearYardRefusal
   numbers = rw (le-ltb 7 (p .lane) (omega (arith, st .low)), st .posts, st .count, st .bytes)
 
-  told : hearNumber (yardHears (st .world .air) (st .world .yard) (p .lane) k .answer) ≡ hearYardRefusal (st .world) (p .lane) k
+  answered : hearNumber (yardHears (st .world .air) (st .world .yard) (p .lane) k .answer) ≡ hearYardRefusal (st .world) (p .lane) k
   unfolding answer
-  told = rw (← (st .reached .is)) at (st .reached .holds .refusals (st .reached .steps) (one (hear (p .lane) k)))
+  answered = rw (← (st .reached .is)) at (st .reached .holds .refusals (st .reached .steps) (one (hear (p .lane) k)))
 
   -- the number that a hearing of the post is refused by, in the yard's own chain
   chain : hearStopped air p frames k
@@ -109,7 +109,7 @@ module _ (p : Post) (frames : ℕ) (air : List ℕ) (k : ℕ) (st : Stands p fra
       (cond (leb frames k) 25
       (cond (eqb (frameAt air k .sender) (p .lane)) 26
       0)))
-  chain = sym same ∙ told ∙ numbers
+  chain = sym same ∙ answered ∙ numbers
 
   -- a hearing that is refused leaves the post, the frames and the air
   pub left-so : (hearStopped air p frames k ≡ 0 → ⊥) → (postHears air p frames k .frames ≡ frames) × (postHearsAir air p frames k ≡ air)
@@ -172,7 +172,7 @@ stands-more p q known frames fr air exit ks heard st = record {
     next : World
     next = singles (st .world) (map (hear i) ks)
 
-    is : next ≡ world (withPost (st .world .yard) i q fr) exit
+    is : next ≡ worldOf (withPost (st .world .yard) i q fr) exit
     is =
         let h = hearings-in-yard (st .world .yard) i (st .low) (st .eight) (st .world .air) ks in
         let e : postWorld q fr exit ≡ hearings (postWorld (postAt (st .world .yard) i) (st .world .yard .frames) (st .world .air)) ks = rw (st .here, st .count, st .bytes) (heard .0) in
@@ -181,7 +181,7 @@ stands-more p q known frames fr air exit ks heard st = record {
 pub row-stands : (s : Sets) (R : Rows) (i frames : ℕ) (air : List ℕ) → i < 8 → RowsReached s R frames air → Stands (rowPost s R i) frames air
 unfolding rowPosts
 row-stands s R i frames air low r = record {
-  world = world (rowsYard s R frames (r .beacons) (r .first)) air;
+  world = worldOf (rowsYard s R frames (r .beacons) (r .first)) air;
   reached = r .reached;
   low = low;
   eight = refl;

@@ -5,12 +5,7 @@ use lib.ListN.{length}
 use Rattle.lines.specs.declared.Line.{Line}
 use Rattle.lines.specs.declared.Line.the-variants.{Yard, Order, Hear, Beacon, Roll, Refused}
 use Rattle.lines.specs.Lines.{linesFrom}
-use Rattle.yard.specs.declared.Yard as yards
-use Rattle.yard.specs.Worlds.{World}
 use Rattle.script.specs.declared.Sets.{Sets}
-
-abbrev pub world : yards.Yard → List ℕ → World
-world y air = record { yard = y; air = air }
 
 -- the sets that line 1 asks for
 abbrev pub setsOf : Line → Sets

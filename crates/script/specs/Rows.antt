@@ -44,8 +44,8 @@ rows clocks serials loggeds lasts tables stamps words logs knowns = record {
 }
 
 -- the numbers of the post of a lane, and the post
-abbrev pub headOf : Sets → ℕ → ℕ → ℕ → ℕ → Head
-headOf s lane clock serial logged = record {
+abbrev pub rowHead : Sets → ℕ → ℕ → ℕ → ℕ → Head
+rowHead s lane clock serial logged = record {
   lane = lane;
   posts = s .present;
   sources = s .sources;
@@ -57,7 +57,7 @@ headOf s lane clock serial logged = record {
 
 abbrev pub rowPost : Sets → Rows → ℕ → Post
 rowPost s R i =
-    postOf (headOf s i (getD (R .clocks) i 0) (getD (R .serials) i 0) (getD (R .loggeds) i 0)) (getD (R .lasts) i []) (getD (R .tables) i [])
+    postOf (rowHead s i (getD (R .clocks) i 0) (getD (R .serials) i 0) (getD (R .loggeds) i 0)) (getD (R .lasts) i []) (getD (R .tables) i [])
     (getD (R .stamps) i []) (getD (R .words) i []) (getD (R .logs) i [])
 
 abbrev pub rowKnown : Rows → ℕ → List ℕ

@@ -11,11 +11,12 @@ mod row_steps;
 ghost use mathlib.Core.Path.{_≡_};
 ghost use Prim.Native.Nat.{_≤_};
 ghost use lib.ListN.{length};
+ghost use Rattle.yard.specs.Worlds.{worldOf};
 ghost use Rattle.text.specs.Writing.{out, wrote};
 ghost use Rattle.lines.specs.Lines.{judged};
 ghost use Rattle.meaning.specs.Script.{worldAfter, refusedLines, scriptWorld, scriptText};
 ghost use Rattle.script.specs.Run.{bytesPrinted, outputAfter, airLeft};
-ghost use Rattle.script.specs.Lines.{world, rest};
+ghost use Rattle.script.specs.Lines.{rest};
 ghost use Rattle.script.specs.Rows.{rows, rowsYard, Good, Reached};
 
 // The lanes that have a post, the sources and the destinations among them.
@@ -133,9 +134,9 @@ fn run_lines(
     first: &mut [u16; 128],
     from: usize,
 ) -> Ran
-    requires { ⌜ (length (now script) ≤ 48000) × (1 ≤ from) × Good s (rows (now clocks) (now serials) (now loggeds) (now lasts) (now tables) (now stamps) (now words) (now logs) (now knowns)) × Reached (world (rowsYard s (rows (now clocks) (now serials) (now loggeds) (now lasts) (now tables) (now stamps) (now words) (now logs) (now knowns)) 0 0 (now first)) (now air)) ⌝ }
-    ensures { λ r. ⌜ world (rowsYard s (rows (now (clocks .exit)) (now (serials .exit)) (now (loggeds .exit)) (now (lasts .exit)) (now (tables .exit)) (now (stamps .exit)) (now (words .exit)) (now (logs .exit)) (now (knowns .exit))) (r .frames) (r .beacons) (now (first .exit))) (now (air .exit)) ≡ worldAfter (world (rowsYard s (rows (now (clocks .entry)) (now (serials .entry)) (now (loggeds .entry)) (now (lasts .entry)) (now (tables .entry)) (now (stamps .entry)) (now (words .entry)) (now (logs .entry)) (now (knowns .entry))) 0 0 (now (first .entry))) (now (air .entry))) (rest (now (script .entry)) from) ⌝ }
-    ensures printed { λ r. ⌜ out (now (output .exit)) (r .to) ≡ wrote (out (now (output .entry)) 0) (refusedLines (world (rowsYard s (rows (now (clocks .entry)) (now (serials .entry)) (now (loggeds .entry)) (now (lasts .entry)) (now (tables .entry)) (now (stamps .entry)) (now (words .entry)) (now (logs .entry)) (now (knowns .entry))) 0 0 (now (first .entry))) (now (air .entry))) 1 (rest (now (script .entry)) from)) ⌝ }
+    requires { ⌜ (length (now script) ≤ 48000) × (1 ≤ from) × Good s (rows (now clocks) (now serials) (now loggeds) (now lasts) (now tables) (now stamps) (now words) (now logs) (now knowns)) × Reached (worldOf (rowsYard s (rows (now clocks) (now serials) (now loggeds) (now lasts) (now tables) (now stamps) (now words) (now logs) (now knowns)) 0 0 (now first)) (now air)) ⌝ }
+    ensures { λ r. ⌜ worldOf (rowsYard s (rows (now (clocks .exit)) (now (serials .exit)) (now (loggeds .exit)) (now (lasts .exit)) (now (tables .exit)) (now (stamps .exit)) (now (words .exit)) (now (logs .exit)) (now (knowns .exit))) (r .frames) (r .beacons) (now (first .exit))) (now (air .exit)) ≡ worldAfter (worldOf (rowsYard s (rows (now (clocks .entry)) (now (serials .entry)) (now (loggeds .entry)) (now (lasts .entry)) (now (tables .entry)) (now (stamps .entry)) (now (words .entry)) (now (logs .entry)) (now (knowns .entry))) 0 0 (now (first .entry))) (now (air .entry))) (rest (now (script .entry)) from) ⌝ }
+    ensures printed { λ r. ⌜ out (now (output .exit)) (r .to) ≡ wrote (out (now (output .entry)) 0) (refusedLines (worldOf (rowsYard s (rows (now (clocks .entry)) (now (serials .entry)) (now (loggeds .entry)) (now (lasts .entry)) (now (tables .entry)) (now (stamps .entry)) (now (words .entry)) (now (logs .entry)) (now (knowns .entry))) 0 0 (now (first .entry))) (now (air .entry))) 1 (rest (now (script .entry)) from)) ⌝ }
 {
     let mut frames = 0u16;
     let mut beacons = 0u16;

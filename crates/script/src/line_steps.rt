@@ -7,12 +7,13 @@ use lines::Line;
 ghost use mathlib.Core.Path.{_≡_};
 ghost use mathlib.Core.Bool.{not};
 ghost use lib.Dec.{eqb};
+ghost use Rattle.yard.specs.Worlds.{worldOf};
 ghost use Rattle.text.specs.Decimal.{given};
 ghost use Rattle.text.specs.Writing.{out, wrote};
 ghost use Rattle.roll.specs.Runs.{run};
 ghost use Rattle.meaning.specs.Texts.{refusedText};
 ghost use Rattle.meaning.specs.Script.{stepOf, refusalOf};
-ghost use Rattle.script.specs.Lines.{world, setsOf};
+ghost use Rattle.script.specs.Lines.{setsOf};
 ghost use Rattle.script.specs.Rows.{rows, rowsYard, Good, Reached};
 
 // The sets of lanes that line 1 asks for.
@@ -70,8 +71,8 @@ pub(crate) fn run_step(
     beacons: u16,
     l: Line,
 ) -> Stepped
-    requires { ⌜ Good s (rows (now clocks) (now serials) (now loggeds) (now lasts) (now tables) (now stamps) (now words) (now logs) (now knowns)) × Reached (world (rowsYard s (rows (now clocks) (now serials) (now loggeds) (now lasts) (now tables) (now stamps) (now words) (now logs) (now knowns)) frames beacons (now first)) (now air)) ⌝ }
-    ensures { λ r. ⌜ (r .number ≡ refusalOf (world (rowsYard s (rows (now (clocks .entry)) (now (serials .entry)) (now (loggeds .entry)) (now (lasts .entry)) (now (tables .entry)) (now (stamps .entry)) (now (words .entry)) (now (logs .entry)) (now (knowns .entry))) frames beacons (now (first .entry))) (now (air .entry))) (stepOf l)) × (rowsYard s (rows (now (clocks .exit)) (now (serials .exit)) (now (loggeds .exit)) (now (lasts .exit)) (now (tables .exit)) (now (stamps .exit)) (now (words .exit)) (now (logs .exit)) (now (knowns .exit))) (r .frames) (r .beacons) (now (first .exit)) ≡ run (world (rowsYard s (rows (now (clocks .entry)) (now (serials .entry)) (now (loggeds .entry)) (now (lasts .entry)) (now (tables .entry)) (now (stamps .entry)) (now (words .entry)) (now (logs .entry)) (now (knowns .entry))) frames beacons (now (first .entry))) (now (air .entry))) (stepOf l) .yard) × (now (air .exit) ≡ run (world (rowsYard s (rows (now (clocks .entry)) (now (serials .entry)) (now (loggeds .entry)) (now (lasts .entry)) (now (tables .entry)) (now (stamps .entry)) (now (words .entry)) (now (logs .entry)) (now (knowns .entry))) frames beacons (now (first .entry))) (now (air .entry))) (stepOf l) .air) ⌝ }
+    requires { ⌜ Good s (rows (now clocks) (now serials) (now loggeds) (now lasts) (now tables) (now stamps) (now words) (now logs) (now knowns)) × Reached (worldOf (rowsYard s (rows (now clocks) (now serials) (now loggeds) (now lasts) (now tables) (now stamps) (now words) (now logs) (now knowns)) frames beacons (now first)) (now air)) ⌝ }
+    ensures { λ r. ⌜ (r .number ≡ refusalOf (worldOf (rowsYard s (rows (now (clocks .entry)) (now (serials .entry)) (now (loggeds .entry)) (now (lasts .entry)) (now (tables .entry)) (now (stamps .entry)) (now (words .entry)) (now (logs .entry)) (now (knowns .entry))) frames beacons (now (first .entry))) (now (air .entry))) (stepOf l)) × (rowsYard s (rows (now (clocks .exit)) (now (serials .exit)) (now (loggeds .exit)) (now (lasts .exit)) (now (tables .exit)) (now (stamps .exit)) (now (words .exit)) (now (logs .exit)) (now (knowns .exit))) (r .frames) (r .beacons) (now (first .exit)) ≡ run (worldOf (rowsYard s (rows (now (clocks .entry)) (now (serials .entry)) (now (loggeds .entry)) (now (lasts .entry)) (now (tables .entry)) (now (stamps .entry)) (now (words .entry)) (now (logs .entry)) (now (knowns .entry))) frames beacons (now (first .entry))) (now (air .entry))) (stepOf l) .yard) × (now (air .exit) ≡ run (worldOf (rowsYard s (rows (now (clocks .entry)) (now (serials .entry)) (now (loggeds .entry)) (now (lasts .entry)) (now (tables .entry)) (now (stamps .entry)) (now (words .entry)) (now (logs .entry)) (now (knowns .entry))) frames beacons (now (first .entry))) (now (air .entry))) (stepOf l) .air) ⌝ }
     ensures good { λ _. ⌜ Good s (rows (now (clocks .exit)) (now (serials .exit)) (now (loggeds .exit)) (now (lasts .exit)) (now (tables .exit)) (now (stamps .exit)) (now (words .exit)) (now (logs .exit)) (now (knowns .exit))) ⌝ }
 {
     match l {

@@ -10,8 +10,8 @@ ghost use mathlib.Core.Bool.{cond};
 ghost use mathlib.Core.List.{List, [], map};
 ghost use Prim.Native.Nat.{ℕ, _<_};
 ghost use Rattle.cells.specs.Sets.{hasLane};
-ghost use Rattle.yard.specs.Worlds.{hear, singles};
-ghost use Rattle.roll.specs.Loops.{world, lanesFrames, beaconFrames};
+ghost use Rattle.yard.specs.Worlds.{hear, singles, worldOf};
+ghost use Rattle.roll.specs.Loops.{lanesFrames, beaconFrames};
 ghost use Rattle.script.specs.Rows.{rows, rowsYard, Good, RowsReached};
 
 // The post of lane p, if there is one, hears the first frames of the other lanes.
@@ -32,7 +32,7 @@ pub(crate) fn post_hears_orders(
     p: u8,
 ) -> u16
     requires { ⌜ (p < 8) × Good s (rows (now clocks) (now serials) (now loggeds) (now lasts) (now tables) (now stamps) (now words) (now logs) (now knowns)) × RowsReached s (rows (now clocks) (now serials) (now loggeds) (now lasts) (now tables) (now stamps) (now words) (now logs) (now knowns)) frames (now air) ⌝ }
-    ensures { λ r. ⌜ ((beacons : ℕ) (before : List ℕ) → world (rowsYard s (rows (now (clocks .exit)) (now (serials .entry)) (now (loggeds .exit)) (now (lasts .exit)) (now (tables .exit)) (now (stamps .exit)) (now (words .exit)) (now (logs .exit)) (now (knowns .exit))) r beacons before) (now (air .exit)) ≡ singles (world (rowsYard s (rows (now (clocks .entry)) (now (serials .entry)) (now (loggeds .entry)) (now (lasts .entry)) (now (tables .entry)) (now (stamps .entry)) (now (words .entry)) (now (logs .entry)) (now (knowns .entry))) frames beacons before) (now (air .entry))) (cond (hasLane (s .present) p) (map (hear p) (lanesFrames (now (first .entry)) (now (serials .entry)) p 8)) [])) ⌝ }
+    ensures { λ r. ⌜ ((beacons : ℕ) (before : List ℕ) → worldOf (rowsYard s (rows (now (clocks .exit)) (now (serials .entry)) (now (loggeds .exit)) (now (lasts .exit)) (now (tables .exit)) (now (stamps .exit)) (now (words .exit)) (now (logs .exit)) (now (knowns .exit))) r beacons before) (now (air .exit)) ≡ singles (worldOf (rowsYard s (rows (now (clocks .entry)) (now (serials .entry)) (now (loggeds .entry)) (now (lasts .entry)) (now (tables .entry)) (now (stamps .entry)) (now (words .entry)) (now (logs .entry)) (now (knowns .entry))) frames beacons before) (now (air .entry))) (cond (hasLane (s .present) p) (map (hear p) (lanesFrames (now (first .entry)) (now (serials .entry)) p 8)) [])) ⌝ }
     ensures good { λ _. ⌜ Good s (rows (now (clocks .exit)) (now (serials .entry)) (now (loggeds .exit)) (now (lasts .exit)) (now (tables .exit)) (now (stamps .exit)) (now (words .exit)) (now (logs .exit)) (now (knowns .exit))) ⌝ }
 {
     if !cells::has(s.present, p) {
@@ -86,7 +86,7 @@ pub(crate) fn post_hears_beacons(
     p: u8,
 ) -> u16
     requires { ⌜ (p < 8) × Good s (rows (now clocks) (now serials) (now loggeds) (now lasts) (now tables) (now stamps) (now words) (now logs) (now knowns)) × RowsReached s (rows (now clocks) (now serials) (now loggeds) (now lasts) (now tables) (now stamps) (now words) (now logs) (now knowns)) frames (now air) ⌝ }
-    ensures { λ r. ⌜ ((beacons : ℕ) (first : List ℕ) → world (rowsYard s (rows (now (clocks .exit)) (now (serials .entry)) (now (loggeds .exit)) (now (lasts .exit)) (now (tables .exit)) (now (stamps .exit)) (now (words .exit)) (now (logs .exit)) (now (knowns .exit))) r beacons first) (now (air .exit)) ≡ singles (world (rowsYard s (rows (now (clocks .entry)) (now (serials .entry)) (now (loggeds .entry)) (now (lasts .entry)) (now (tables .entry)) (now (stamps .entry)) (now (words .entry)) (now (logs .entry)) (now (knowns .entry))) frames beacons first) (now (air .entry))) (cond (hasLane (s .present) p) (map (hear p) (beaconFrames (s .sources) from p 8)) [])) ⌝ }
+    ensures { λ r. ⌜ ((beacons : ℕ) (first : List ℕ) → worldOf (rowsYard s (rows (now (clocks .exit)) (now (serials .entry)) (now (loggeds .exit)) (now (lasts .exit)) (now (tables .exit)) (now (stamps .exit)) (now (words .exit)) (now (logs .exit)) (now (knowns .exit))) r beacons first) (now (air .exit)) ≡ singles (worldOf (rowsYard s (rows (now (clocks .entry)) (now (serials .entry)) (now (loggeds .entry)) (now (lasts .entry)) (now (tables .entry)) (now (stamps .entry)) (now (words .entry)) (now (logs .entry)) (now (knowns .entry))) frames beacons first) (now (air .entry))) (cond (hasLane (s .present) p) (map (hear p) (beaconFrames (s .sources) from p 8)) [])) ⌝ }
     ensures good { λ _. ⌜ Good s (rows (now (clocks .exit)) (now (serials .entry)) (now (loggeds .exit)) (now (lasts .exit)) (now (tables .exit)) (now (stamps .exit)) (now (words .exit)) (now (logs .exit)) (now (knowns .exit))) ⌝ }
 {
     if !cells::has(s.present, p) {

@@ -12,10 +12,9 @@ ghost use mathlib.Core.Bool.{cond};
 ghost use mathlib.Core.List.{List, [], _∷_};
 ghost use Prim.Native.Nat.{ℕ, _-_, _<_};
 ghost use Rattle.cells.specs.Sets.{hasLane};
-ghost use Rattle.yard.specs.Worlds.{beacon, singles};
+ghost use Rattle.yard.specs.Worlds.{beacon, singles, worldOf};
 ghost use Rattle.roll.specs.Answers.{rollNumber};
 ghost use Rattle.roll.specs.RollCall.{postsHear, beaconsSent, postsHearBeacons, rollCall, rollCallAir};
-ghost use Rattle.roll.specs.Loops.{world};
 ghost use Rattle.script.specs.Rows.{rows, rowsYard, Good, Reached, RowsReached, FirstReached};
 
 // How many frames are on the air and how many beacons were sent.
@@ -41,8 +40,8 @@ pub(crate) fn call(
     frames: u16,
     beacons: u16,
 ) -> Stepped
-    requires { ⌜ Good s (rows (now clocks) (now serials) (now loggeds) (now lasts) (now tables) (now stamps) (now words) (now logs) (now knowns)) × Reached (world (rowsYard s (rows (now clocks) (now serials) (now loggeds) (now lasts) (now tables) (now stamps) (now words) (now logs) (now knowns)) frames beacons (now first)) (now air)) ⌝ }
-    ensures { λ r. ⌜ (r .number ≡ rollNumber (rollCall (world (rowsYard s (rows (now (clocks .entry)) (now (serials .entry)) (now (loggeds .entry)) (now (lasts .entry)) (now (tables .entry)) (now (stamps .entry)) (now (words .entry)) (now (logs .entry)) (now (knowns .entry))) frames beacons (now (first .entry))) (now (air .entry))) .answer)) × (rowsYard s (rows (now (clocks .exit)) (now (serials .entry)) (now (loggeds .exit)) (now (lasts .exit)) (now (tables .exit)) (now (stamps .exit)) (now (words .exit)) (now (logs .exit)) (now (knowns .exit))) (r .frames) (r .beacons) (now (first .entry)) ≡ rollCall (world (rowsYard s (rows (now (clocks .entry)) (now (serials .entry)) (now (loggeds .entry)) (now (lasts .entry)) (now (tables .entry)) (now (stamps .entry)) (now (words .entry)) (now (logs .entry)) (now (knowns .entry))) frames beacons (now (first .entry))) (now (air .entry))) .yard) × (now (air .exit) ≡ rollCallAir (world (rowsYard s (rows (now (clocks .entry)) (now (serials .entry)) (now (loggeds .entry)) (now (lasts .entry)) (now (tables .entry)) (now (stamps .entry)) (now (words .entry)) (now (logs .entry)) (now (knowns .entry))) frames beacons (now (first .entry))) (now (air .entry)))) ⌝ }
+    requires { ⌜ Good s (rows (now clocks) (now serials) (now loggeds) (now lasts) (now tables) (now stamps) (now words) (now logs) (now knowns)) × Reached (worldOf (rowsYard s (rows (now clocks) (now serials) (now loggeds) (now lasts) (now tables) (now stamps) (now words) (now logs) (now knowns)) frames beacons (now first)) (now air)) ⌝ }
+    ensures { λ r. ⌜ (r .number ≡ rollNumber (rollCall (worldOf (rowsYard s (rows (now (clocks .entry)) (now (serials .entry)) (now (loggeds .entry)) (now (lasts .entry)) (now (tables .entry)) (now (stamps .entry)) (now (words .entry)) (now (logs .entry)) (now (knowns .entry))) frames beacons (now (first .entry))) (now (air .entry))) .answer)) × (rowsYard s (rows (now (clocks .exit)) (now (serials .entry)) (now (loggeds .exit)) (now (lasts .exit)) (now (tables .exit)) (now (stamps .exit)) (now (words .exit)) (now (logs .exit)) (now (knowns .exit))) (r .frames) (r .beacons) (now (first .entry)) ≡ rollCall (worldOf (rowsYard s (rows (now (clocks .entry)) (now (serials .entry)) (now (loggeds .entry)) (now (lasts .entry)) (now (tables .entry)) (now (stamps .entry)) (now (words .entry)) (now (logs .entry)) (now (knowns .entry))) frames beacons (now (first .entry))) (now (air .entry))) .yard) × (now (air .exit) ≡ rollCallAir (worldOf (rowsYard s (rows (now (clocks .entry)) (now (serials .entry)) (now (loggeds .entry)) (now (lasts .entry)) (now (tables .entry)) (now (stamps .entry)) (now (words .entry)) (now (logs .entry)) (now (knowns .entry))) frames beacons (now (first .entry))) (now (air .entry)))) ⌝ }
     ensures good { λ _. ⌜ Good s (rows (now (clocks .exit)) (now (serials .entry)) (now (loggeds .exit)) (now (lasts .exit)) (now (tables .exit)) (now (stamps .exit)) (now (words .exit)) (now (logs .exit)) (now (knowns .exit))) ⌝ }
 {
     if air.len() != air::LENGTH {
@@ -125,7 +124,7 @@ fn hear_orders(
     frames: u16,
 ) -> u16
     requires { ⌜ Good s (rows (now clocks) (now serials) (now loggeds) (now lasts) (now tables) (now stamps) (now words) (now logs) (now knowns)) × FirstReached s (rows (now clocks) (now serials) (now loggeds) (now lasts) (now tables) (now stamps) (now words) (now logs) (now knowns)) frames (now first) (now air) ⌝ }
-    ensures { λ r. ⌜ ((beacons : ℕ) → world (rowsYard s (rows (now (clocks .exit)) (now (serials .entry)) (now (loggeds .exit)) (now (lasts .exit)) (now (tables .exit)) (now (stamps .exit)) (now (words .exit)) (now (logs .exit)) (now (knowns .exit))) r beacons (now (first .entry))) (now (air .exit)) ≡ singles (world (rowsYard s (rows (now (clocks .entry)) (now (serials .entry)) (now (loggeds .entry)) (now (lasts .entry)) (now (tables .entry)) (now (stamps .entry)) (now (words .entry)) (now (logs .entry)) (now (knowns .entry))) frames beacons (now (first .entry))) (now (air .entry))) (postsHear (rowsYard s (rows (now (clocks .entry)) (now (serials .entry)) (now (loggeds .entry)) (now (lasts .entry)) (now (tables .entry)) (now (stamps .entry)) (now (words .entry)) (now (logs .entry)) (now (knowns .entry))) frames beacons (now (first .entry))) 8)) ⌝ }
+    ensures { λ r. ⌜ ((beacons : ℕ) → worldOf (rowsYard s (rows (now (clocks .exit)) (now (serials .entry)) (now (loggeds .exit)) (now (lasts .exit)) (now (tables .exit)) (now (stamps .exit)) (now (words .exit)) (now (logs .exit)) (now (knowns .exit))) r beacons (now (first .entry))) (now (air .exit)) ≡ singles (worldOf (rowsYard s (rows (now (clocks .entry)) (now (serials .entry)) (now (loggeds .entry)) (now (lasts .entry)) (now (tables .entry)) (now (stamps .entry)) (now (words .entry)) (now (logs .entry)) (now (knowns .entry))) frames beacons (now (first .entry))) (now (air .entry))) (postsHear (rowsYard s (rows (now (clocks .entry)) (now (serials .entry)) (now (loggeds .entry)) (now (lasts .entry)) (now (tables .entry)) (now (stamps .entry)) (now (words .entry)) (now (logs .entry)) (now (knowns .entry))) frames beacons (now (first .entry))) 8)) ⌝ }
     ensures good { λ _. ⌜ Good s (rows (now (clocks .exit)) (now (serials .entry)) (now (loggeds .exit)) (now (lasts .exit)) (now (tables .exit)) (now (stamps .exit)) (now (words .exit)) (now (logs .exit)) (now (knowns .exit))) ⌝ }
 {
     let mut on_air = frames;
@@ -161,7 +160,7 @@ fn send_beacons(
     frames: u16,
     beacons: u16,
 ) -> Sent
-    ensures { λ r. ⌜ ((first : List ℕ) (lasts stamps words logs knowns : List (List ℕ)) → world (rowsYard s (rows (now (clocks .entry)) (now (serials .entry)) (now (loggeds .entry)) lasts (now (tables .entry)) stamps words logs knowns) (r .frames) (r .beacons) first) (now (air .exit)) ≡ singles (world (rowsYard s (rows (now (clocks .entry)) (now (serials .entry)) (now (loggeds .entry)) lasts (now (tables .entry)) stamps words logs knowns) frames beacons first) (now (air .entry))) (beaconsSent (s .sources) 8)) ⌝ }
+    ensures { λ r. ⌜ ((first : List ℕ) (lasts stamps words logs knowns : List (List ℕ)) → worldOf (rowsYard s (rows (now (clocks .entry)) (now (serials .entry)) (now (loggeds .entry)) lasts (now (tables .entry)) stamps words logs knowns) (r .frames) (r .beacons) first) (now (air .exit)) ≡ singles (worldOf (rowsYard s (rows (now (clocks .entry)) (now (serials .entry)) (now (loggeds .entry)) lasts (now (tables .entry)) stamps words logs knowns) frames beacons first) (now (air .entry))) (beaconsSent (s .sources) 8)) ⌝ }
 {
     let mut now_sent = Sent {
         frames: frames,
@@ -185,7 +184,7 @@ fn send_beacon(
     lane: u8,
 ) -> Sent
     requires { ⌜ lane < 8 ⌝ }
-    ensures { λ r. ⌜ ((first : List ℕ) (lasts stamps words logs knowns : List (List ℕ)) → world (rowsYard s (rows (now (clocks .entry)) (now (serials .entry)) (now (loggeds .entry)) lasts (now (tables .entry)) stamps words logs knowns) (r .frames) (r .beacons) first) (now (air .exit)) ≡ singles (world (rowsYard s (rows (now (clocks .entry)) (now (serials .entry)) (now (loggeds .entry)) lasts (now (tables .entry)) stamps words logs knowns) (before .frames) (before .beacons) first) (now (air .entry))) (cond (hasLane (s .sources) lane) (beacon lane ∷ []) [])) ⌝ }
+    ensures { λ r. ⌜ ((first : List ℕ) (lasts stamps words logs knowns : List (List ℕ)) → worldOf (rowsYard s (rows (now (clocks .entry)) (now (serials .entry)) (now (loggeds .entry)) lasts (now (tables .entry)) stamps words logs knowns) (r .frames) (r .beacons) first) (now (air .exit)) ≡ singles (worldOf (rowsYard s (rows (now (clocks .entry)) (now (serials .entry)) (now (loggeds .entry)) lasts (now (tables .entry)) stamps words logs knowns) (before .frames) (before .beacons) first) (now (air .entry))) (cond (hasLane (s .sources) lane) (beacon lane ∷ []) [])) ⌝ }
 {
     if !cells::has(s.sources, lane) {
         return before;
@@ -224,7 +223,7 @@ fn hear_beacons(
     from: u16,
 ) -> u16
     requires { ⌜ Good s (rows (now clocks) (now serials) (now loggeds) (now lasts) (now tables) (now stamps) (now words) (now logs) (now knowns)) × RowsReached s (rows (now clocks) (now serials) (now loggeds) (now lasts) (now tables) (now stamps) (now words) (now logs) (now knowns)) frames (now air) ⌝ }
-    ensures { λ r. ⌜ ((beacons : ℕ) (first : List ℕ) → world (rowsYard s (rows (now (clocks .exit)) (now (serials .entry)) (now (loggeds .exit)) (now (lasts .exit)) (now (tables .exit)) (now (stamps .exit)) (now (words .exit)) (now (logs .exit)) (now (knowns .exit))) r beacons first) (now (air .exit)) ≡ singles (world (rowsYard s (rows (now (clocks .entry)) (now (serials .entry)) (now (loggeds .entry)) (now (lasts .entry)) (now (tables .entry)) (now (stamps .entry)) (now (words .entry)) (now (logs .entry)) (now (knowns .entry))) frames beacons first) (now (air .entry))) (postsHearBeacons (s .present) (s .sources) from 8)) ⌝ }
+    ensures { λ r. ⌜ ((beacons : ℕ) (first : List ℕ) → worldOf (rowsYard s (rows (now (clocks .exit)) (now (serials .entry)) (now (loggeds .exit)) (now (lasts .exit)) (now (tables .exit)) (now (stamps .exit)) (now (words .exit)) (now (logs .exit)) (now (knowns .exit))) r beacons first) (now (air .exit)) ≡ singles (worldOf (rowsYard s (rows (now (clocks .entry)) (now (serials .entry)) (now (loggeds .entry)) (now (lasts .entry)) (now (tables .entry)) (now (stamps .entry)) (now (words .entry)) (now (logs .entry)) (now (knowns .entry))) frames beacons first) (now (air .entry))) (postsHearBeacons (s .present) (s .sources) from 8)) ⌝ }
     ensures good { λ _. ⌜ Good s (rows (now (clocks .exit)) (now (serials .entry)) (now (loggeds .exit)) (now (lasts .exit)) (now (tables .exit)) (now (stamps .exit)) (now (words .exit)) (now (logs .exit)) (now (knowns .exit))) ⌝ }
 {
     let mut on_air = frames;

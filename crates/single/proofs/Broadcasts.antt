@@ -12,7 +12,7 @@ use Rattle.cells.specs.Sets.{hasLane}
 use Rattle.post.specs.declared.Post.{Post}
 use Rattle.post.specs.Record.{lastOf}
 use Rattle.post.specs.Newest.{beaconFrame}
-use Rattle.post.specs.Taking.{ordered, kept, ticked, taken}
+use Rattle.post.specs.Taking.{ownTaken, kept, ticked, taken}
 use Rattle.steps.specs.Refusals.{notInYard, isNext, orderRefusal, hearRefusal, beaconRefusal}
 use Rattle.steps.specs.Steps.{orderSent, hearTaken}
 use Rattle.steps.proofs.Passed.{order-passed, hear-passed}
@@ -27,11 +27,11 @@ pub lane-below : (lanes lane : ℕ) → not (hasLane lanes lane) ≡ false → l
 lane-below lanes lane e = ltb-true lane 8 (and-parts (ltb lane 8) _ (not-false (hasLane lanes lane) e) .0)
 
 pub sent-accepted : (p : Post) (word : ℕ) → orderRefusal p ≡ 0 → frameRefusal (orderSent p word .frame) ≡ 0
-unfolding orderSent ordered kept ticked
+unfolding orderSent ownTaken kept ticked
 sent-accepted p word z =
     let a = order-passed (p .lane) (p .posts) (p .sources) (p .serial .0) (p .clock .0) z in
     let l : p .lane < 8 = lane-below (p .posts) (p .lane) (a .0) in
-    order-accepted (ordered p word) (p .lane) (p .serial .0 + 1) (p .clock .0 + 1) word l l (omega arith)
+    order-accepted (ownTaken p word) (p .lane) (p .serial .0 + 1) (p .clock .0 + 1) word l l (omega arith)
     (omega (arith, leb-false 16 (p .serial .0) (a .2))) (omega arith)
 
 pub beacon-sendable : (p : Post) → beaconRefusal p ≡ 0 → frameRefusal (beaconFrame p) ≡ 0

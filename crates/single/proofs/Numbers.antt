@@ -12,7 +12,7 @@ use Rattle.frame.specs.Refusals.{badLength, readRefusal}
 use Rattle.frame.proofs.Laws.{passed}
 use Rattle.post.specs.declared.Post.{Post}
 use Rattle.post.specs.Record.{lastOf}
-use Rattle.post.specs.Taking.{ordered, kept, ticked, raisedPost, taken}
+use Rattle.post.specs.Taking.{ownTaken, kept, ticked, raisedPost, taken}
 use Rattle.deliver.specs.Delivery.{delivered}
 use Rattle.judge.specs.Judgement.{badRecord}
 use Rattle.steps.specs.Answers.{orderNumber, orderSerial, orderStamp, orderCount, hearNumber, hearCount, beaconNumber}
@@ -86,7 +86,7 @@ OrderTells p word buffer a =
     × ((orderSerial a ≡ orderSerialSingly p buffer) × ((orderStamp a ≡ orderStampSingly p buffer) × (orderCount a ≡ orderCountSingly p word buffer)))
 
 order-values : (p : Post) (word : ℕ) (buffer : List ℕ) → OrderTells p word buffer (orderSingly p word buffer .answer)
-unfolding orderSingly orderSerialSingly orderStampSingly orderCountSingly orderSent ordered kept ticked
+unfolding orderSingly orderSerialSingly orderStampSingly orderCountSingly orderSent ownTaken kept ticked
 order-values p word buffer = go (eqb (orderRefusalSingly p buffer) 0) refl
   where
     go : (b : Bool) → eqb (orderRefusalSingly p buffer) 0 ≡ b → OrderTells p word buffer (orderSingly p word buffer .answer)

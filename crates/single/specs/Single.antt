@@ -8,7 +8,7 @@ use Rattle.frame.specs.Refusals.{badLength, readRefusal}
 use Rattle.post.specs.declared.Post.{Post}
 use Rattle.post.specs.Record.{lastOf, freshPost}
 use Rattle.post.specs.Newest.{beaconFrame}
-use Rattle.post.specs.Taking.{ordered, raisedPost, taken}
+use Rattle.post.specs.Taking.{ownTaken, raisedPost, taken}
 use Rattle.deliver.specs.Delivery.{delivered}
 use Rattle.judge.specs.Judgement.{badRecord}
 use Rattle.steps.specs.Refusals.{notInYard, isNext, orderRefusal, hearRefusal, beaconRefusal}
@@ -54,7 +54,7 @@ unfoldable pub orderStampSingly : Post → List ℕ → ℕ
 orderStampSingly p buffer = cond (eqb (orderRefusalSingly p buffer) 0) (p .clock .0 + 1) 0
 
 unfoldable pub orderCountSingly : Post → ℕ → List ℕ → ℕ
-orderCountSingly p word buffer = cond (eqb (orderRefusalSingly p buffer) 0) (delivered (ordered p word) .count) 0
+orderCountSingly p word buffer = cond (eqb (orderRefusalSingly p buffer) 0) (delivered (ownTaken p word) .count) 0
 
 -- "A post run singly puts its broadcast into a lent 32-byte buffer"; a refusal leaves it
 unfoldable pub orderBuffer : Post → ℕ → List ℕ → List ℕ

@@ -9,12 +9,12 @@ use Rattle.lines.specs.declared.Line.{Line}
 use Rattle.lines.specs.Lines.{lineAt, nextOf, linesFrom}
 use Rattle.reader.proofs.Progress.{next-above}
 use Rattle.yard.specs.declared.Yard.{Yard}
-use Rattle.yard.specs.Worlds.{World}
+use Rattle.yard.specs.Worlds.{World, worldOf}
 use Rattle.roll.specs.Runs.{run}
 use Rattle.meaning.specs.Script.{stepOf, worldAfter}
 use Rattle.state.specs.declared.Stepped.{Stepped}
 use Rattle.state.specs.State.{lastBytes}
-use Rattle.state.specs.Lines.{world, lineStep, rest}
+use Rattle.state.specs.Lines.{lineStep, rest}
 
 -- the lines from a place on lead to the world `end` and to the last answer `said`; n is at least their number
 abbrev pub Left : List ℕ → World → List ℕ → World → List ℕ → ℕ → Type 0
@@ -34,8 +34,8 @@ none-left s end said w answer at h (suc n, low, e, f) = (rw (le-ltb at (length s
 
 -- one line more
 pub left-more : (s : List ℕ) (end : World) (said : List ℕ) (y : Yard) (air exit answer : List ℕ) (at next : ℕ) (l : Line) (d : Stepped)
-    → at < length s → l ≡ lineAt s at → d ≡ lineStep (world y air) l → exit ≡ run (world y air) (stepOf l) .air → next ≡ nextOf s l
-    → Left s end said (world y air) answer at → Left s end said (world (d .yard) exit) (d .answer) next
+    → at < length s → l ≡ lineAt s at → d ≡ lineStep (worldOf y air) l → exit ≡ run (worldOf y air) (stepOf l) .air → next ≡ nextOf s l
+    → Left s end said (worldOf y air) answer at → Left s end said (worldOf (d .yard) exit) (d .answer) next
 unfolding linesFrom worldAfter lastBytes
 left-more s end said y air exit answer at next l d h el ed ex en (zero, low, e, f) = absurd (omega arith)
 left-more s end said y air exit answer at next l d h el ed ex en (suc n, low, e, f) =

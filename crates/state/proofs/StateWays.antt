@@ -6,6 +6,7 @@ use native.Mathlib.Omega.{arith}
 use lib.ListN.{length}
 use lib.Seq.{drop-length}
 use borrow.Author.Tests.{eq-eqb, ne-eqb}
+use Rattle.yard.specs.Worlds.{worldOf}
 use Rattle.text.specs.Writing.{Out, out, wrote}
 use Rattle.text.proofs.Laws.{wrote-fits}
 use Rattle.lines.specs.declared.Line.{Line}
@@ -14,7 +15,7 @@ use Rattle.lines.specs.Lines.{lineAt, nextOf, judged}
 use Rattle.yard.specs.declared.Yard.{Yard}
 use Rattle.meaning.specs.Script.{yardOf, worldAfter, scriptWorld}
 use Rattle.state.specs.State.{yardBytes, noStep, lastBytes, stateBytes, stateAnswer, stateAfter, stateAir}
-use Rattle.state.specs.Lines.{world, rest}
+use Rattle.state.specs.Lines.{rest}
 
 -- a text as long as the buffer fills it
 fills : (t l : List ℕ) → length t ≡ length l → wrote (out l 0) t ≡ out t (length l)
@@ -25,9 +26,9 @@ fills t l e =
 -- the steps, then the state
 pub good-ran : (s air exit state state' : List ℕ) (l : Line) (y last : Yard) (answer : List ℕ) (from r : ℕ)
     → length state ≡ 7692 → l ≡ lineAt s 0 → y ≡ yardOf l → from ≡ nextOf s l
-    → last ≡ worldAfter (world y air) (rest s from) .yard
-    → answer ≡ lastBytes (world y air) noStep (rest s from)
-    → exit ≡ worldAfter (world y air) (rest s from) .air
+    → last ≡ worldAfter (worldOf y air) (rest s from) .yard
+    → answer ≡ lastBytes (worldOf y air) noStep (rest s from)
+    → exit ≡ worldAfter (worldOf y air) (rest s from) .air
     → out state' r ≡ wrote (out state 0) (yardBytes last ++ answer) → length (yardBytes last ++ answer) ≡ 7692
     → (r ≡ 7692) × ((state' ≡ stateBytes s air) × (exit ≡ scriptWorld s air .air))
 unfolding stateBytes scriptWorld

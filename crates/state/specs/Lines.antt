@@ -4,15 +4,11 @@ use mathlib.Core.List.{List}
 use lib.ListN.{length}
 use Rattle.lines.specs.declared.Line.{Line}
 use Rattle.lines.specs.Lines.{linesFrom}
-use Rattle.yard.specs.declared.Yard.{Yard}
 use Rattle.yard.specs.Worlds.{World}
 use Rattle.roll.specs.Runs.{Step, answer, step, run}
 use Rattle.meaning.specs.Script.{stepOf}
 use Rattle.state.specs.State.{answerBytes, lineBytes}
 use Rattle.state.specs.declared.Stepped.{Stepped}
-
-abbrev pub world : Yard → List ℕ → World
-world y air = record { yard = y; air = air }
 
 -- the yard after a step, and the bytes of its answer
 abbrev pub stepped : World → Step → Stepped

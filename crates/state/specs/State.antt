@@ -16,7 +16,7 @@ use Rattle.yard.specs.Yards.{postAt}
 use Rattle.yard.specs.Worlds.{World}
 use Rattle.roll.specs.declared.RollAnswer as calling
 use Rattle.roll.specs.Runs.{Step, Answer, ordered, heard, beaconed, called, answer, run}
-use Rattle.meaning.specs.Script.{stepOf, freshWorld, stepLines, scriptWorld}
+use Rattle.meaning.specs.Script.{stepOf, scriptStart, stepLines, scriptWorld}
 
 -- ---- numbers of two bytes
 
@@ -49,28 +49,28 @@ yardBytes y = recordsBytes y 8 ++ pair (y .frames) ++ pair (y .beacons) ++ pairs
 -- ---- an answer: 8 bytes
 
 -- its code, the refusal's number, the count delivered, the order's serial and stamp, the number of single steps of a roll call
-abbrev pub told : ℕ → ℕ → ℕ → ℕ → ℕ → ℕ → List ℕ
-told code number count serial stamp steps = code ∷ number ∷ count ∷ serial ∷ pair stamp ++ pair steps
+abbrev pub valueBytes : ℕ → ℕ → ℕ → ℕ → ℕ → ℕ → List ℕ
+valueBytes code number count serial stamp steps = code ∷ number ∷ count ∷ serial ∷ pair stamp ++ pair steps
 
 -- codes: 0 refused, 1 order sent, 2 taken, 3 again, 4 early, 5 beacon heard, 6 beacon sent, 7 no step yet, 8 roll call ran
 abbrev pub orderBytes : orders.OrderAnswer → List ℕ
-orderBytes (orders.the-variants.Sent serial stamp count) = told 1 0 count (serial .0) (stamp .0) 0
-orderBytes (orders.the-variants.Refused number) = told 0 number 0 0 0 0
+orderBytes (orders.the-variants.Sent serial stamp count) = valueBytes 1 0 count (serial .0) (stamp .0) 0
+orderBytes (orders.the-variants.Refused number) = valueBytes 0 number 0 0 0 0
 
 abbrev pub hearBytes : hearings.HearAnswer → List ℕ
-hearBytes (hearings.the-variants.Taken count) = told 2 0 count 0 0 0
-hearBytes (hearings.the-variants.Again count) = told 3 0 count 0 0 0
-hearBytes (hearings.the-variants.Early count) = told 4 0 count 0 0 0
-hearBytes (hearings.the-variants.Beacon count) = told 5 0 count 0 0 0
-hearBytes (hearings.the-variants.Refused number) = told 0 number 0 0 0 0
+hearBytes (hearings.the-variants.Taken count) = valueBytes 2 0 count 0 0 0
+hearBytes (hearings.the-variants.Again count) = valueBytes 3 0 count 0 0 0
+hearBytes (hearings.the-variants.Early count) = valueBytes 4 0 count 0 0 0
+hearBytes (hearings.the-variants.Beacon count) = valueBytes 5 0 count 0 0 0
+hearBytes (hearings.the-variants.Refused number) = valueBytes 0 number 0 0 0 0
 
 abbrev pub beaconBytes : beaconing.BeaconAnswer → List ℕ
-beaconBytes beaconing.the-variants.Sent = told 6 0 0 0 0 0
-beaconBytes (beaconing.the-variants.Refused number) = told 0 number 0 0 0 0
+beaconBytes beaconing.the-variants.Sent = valueBytes 6 0 0 0 0 0
+beaconBytes (beaconing.the-variants.Refused number) = valueBytes 0 number 0 0 0 0
 
 abbrev pub rollBytes : calling.RollAnswer → List ℕ
-rollBytes (calling.the-variants.Called steps) = told 8 0 0 0 0 steps
-rollBytes (calling.the-variants.Refused number) = told 0 number 0 0 0 0
+rollBytes (calling.the-variants.Called steps) = valueBytes 8 0 0 0 0 steps
+rollBytes (calling.the-variants.Refused number) = valueBytes 0 number 0 0 0 0
 
 abbrev pub answerBytes : Answer → List ℕ
 answerBytes (ordered a) = orderBytes a
@@ -80,7 +80,7 @@ answerBytes (called a) = rollBytes a
 
 -- the yard line asks for no step
 abbrev pub noStep : List ℕ
-noStep = told 7 0 0 0 0 0
+noStep = valueBytes 7 0 0 0 0 0
 
 -- what a line's step answers in a world
 abbrev pub lineBytes : World → List Step → List ℕ
@@ -95,7 +95,7 @@ lastBytes w b (l ∷ ls) = lastBytes (run w (stepOf l)) (lineBytes w (stepOf l))
 -- ---- a script that is not refused: the state after its last line. Every array has its length, so it has 7,692 bytes.
 
 unfoldable pub stateBytes : List ℕ → List ℕ → List ℕ
-stateBytes s air = yardBytes (scriptWorld s air .yard) ++ lastBytes (freshWorld s air) noStep (stepLines s)
+stateBytes s air = yardBytes (scriptWorld s air .yard) ++ lastBytes (scriptStart s air) noStep (stepLines s)
 
 -- ---- any script and any buffer
 

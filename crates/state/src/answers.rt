@@ -7,10 +7,10 @@ use steps::BeaconAnswer;
 use steps::HearAnswer;
 use steps::OrderAnswer;
 ghost use mathlib.Core.Path.{_≡_};
-ghost use Rattle.state.specs.State.{told, orderBytes, hearBytes, beaconBytes, rollBytes};
+ghost use Rattle.state.specs.State.{valueBytes, orderBytes, hearBytes, beaconBytes, rollBytes};
 
 fn bytes_of(code: u8, number: u8, count: u8, serial: u8, stamp: u16, steps: u16) -> [u8; 8]
-    ensures { λ r. ⌜ r ≡ told code number count serial stamp steps ⌝ }
+    ensures { λ r. ⌜ r ≡ valueBytes code number count serial stamp steps ⌝ }
 {
     [
         code,

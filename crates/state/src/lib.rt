@@ -6,10 +6,11 @@ mod line_steps;
 use yard::Yard;
 ghost use mathlib.Core.Path.{_≡_};
 ghost use lib.ListN.{length};
+ghost use Rattle.yard.specs.Worlds.{worldOf};
 ghost use Rattle.lines.specs.Lines.{judged};
 ghost use Rattle.meaning.specs.Script.{worldAfter, scriptWorld};
 ghost use Rattle.state.specs.State.{lastBytes, noStep, stateBytes, stateAnswer, stateAfter, stateAir};
-ghost use Rattle.state.specs.Lines.{world, rest};
+ghost use Rattle.state.specs.Lines.{rest};
 
 // The yard after a line's step, and the eight bytes of the line's answer.
 pub(crate) struct Stepped {
@@ -56,9 +57,9 @@ fn run_good(script: &[u8], air: &mut [u8], state: &mut [u8]) -> usize
 
 // The steps of the lines from a place on: the yard after them, and the last line's answer.
 fn run_lines(script: &[u8], air: &mut [u8], y: Yard, from: usize) -> Stepped
-    ensures { λ r. ⌜ r .yard ≡ worldAfter (world y (now (air .entry))) (rest (now (script .entry)) from) .yard ⌝ }
-    ensures told { λ r. ⌜ r .answer ≡ lastBytes (world y (now (air .entry))) noStep (rest (now (script .entry)) from) ⌝ }
-    ensures bytes { λ _. ⌜ now (air .exit) ≡ worldAfter (world y (now (air .entry))) (rest (now (script .entry)) from) .air ⌝ }
+    ensures { λ r. ⌜ r .yard ≡ worldAfter (worldOf y (now (air .entry))) (rest (now (script .entry)) from) .yard ⌝ }
+    ensures answered { λ r. ⌜ r .answer ≡ lastBytes (worldOf y (now (air .entry))) noStep (rest (now (script .entry)) from) ⌝ }
+    ensures bytes { λ _. ⌜ now (air .exit) ≡ worldAfter (worldOf y (now (air .entry))) (rest (now (script .entry)) from) .air ⌝ }
 {
     let mut now_yard = y;
     let mut answer = [7, 0, 0, 0, 0, 0, 0, 0];

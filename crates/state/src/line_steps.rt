@@ -5,11 +5,11 @@ use lines::Line;
 use yard::Yard;
 ghost use mathlib.Core.Path.{_≡_};
 ghost use Rattle.yard.specs.Yards.{yardMade};
-ghost use Rattle.yard.specs.Worlds.{order, hear, beacon};
+ghost use Rattle.yard.specs.Worlds.{order, hear, beacon, worldOf};
 ghost use Rattle.roll.specs.Runs.{one, roll, step, run};
 ghost use Rattle.meaning.specs.Script.{stepOf, yardOf};
 ghost use Rattle.state.specs.State.{noStep};
-ghost use Rattle.state.specs.Lines.{world, stepped, lineStep};
+ghost use Rattle.state.specs.Lines.{stepped, lineStep};
 
 // The fresh yard that line 1 asks for.
 pub(crate) fn yard_of(l: Line) -> Yard
@@ -48,8 +48,8 @@ fn fresh(posts: u8, sources: u8, dests: u8) -> Yard
 
 // The step that a line asks for.
 pub(crate) fn run_step(y: Yard, air: &mut [u8], l: Line) -> Stepped
-    ensures { λ r. ⌜ r ≡ lineStep (world y (now (air .entry))) l ⌝ }
-    ensures bytes { λ _. ⌜ now (air .exit) ≡ run (world y (now (air .entry))) (stepOf l) .air ⌝ }
+    ensures { λ r. ⌜ r ≡ lineStep (worldOf y (now (air .entry))) l ⌝ }
+    ensures bytes { λ _. ⌜ now (air .exit) ≡ run (worldOf y (now (air .entry))) (stepOf l) .air ⌝ }
 {
     match l {
         Line::Yard {
@@ -85,8 +85,8 @@ fn no_step(y: Yard) -> Stepped
 }
 
 fn run_order(y: Yard, air: &mut [u8], lane: u8, word: u16) -> Stepped
-    ensures { λ r. ⌜ r ≡ stepped (world y (now (air .entry))) (one (order lane word)) ⌝ }
-    ensures bytes { λ _. ⌜ now (air .exit) ≡ step (world y (now (air .entry))) (one (order lane word)) .air ⌝ }
+    ensures { λ r. ⌜ r ≡ stepped (worldOf y (now (air .entry))) (one (order lane word)) ⌝ }
+    ensures bytes { λ _. ⌜ now (air .exit) ≡ step (worldOf y (now (air .entry))) (one (order lane word)) .air ⌝ }
 {
     let done = yard::order(y, air, lane as usize, word as usize);
     let answer = done.answer;
@@ -98,8 +98,8 @@ fn run_order(y: Yard, air: &mut [u8], lane: u8, word: u16) -> Stepped
 }
 
 fn run_hear(y: Yard, air: &mut [u8], lane: u8, frame: u32) -> Stepped
-    ensures { λ r. ⌜ r ≡ stepped (world y (now (air .entry))) (one (hear lane frame)) ⌝ }
-    ensures bytes { λ _. ⌜ now (air .exit) ≡ step (world y (now (air .entry))) (one (hear lane frame)) .air ⌝ }
+    ensures { λ r. ⌜ r ≡ stepped (worldOf y (now (air .entry))) (one (hear lane frame)) ⌝ }
+    ensures bytes { λ _. ⌜ now (air .exit) ≡ step (worldOf y (now (air .entry))) (one (hear lane frame)) .air ⌝ }
 {
     let done = yard::hear(y, air, lane as usize, frame as usize);
     let answer = done.answer;
@@ -111,8 +111,8 @@ fn run_hear(y: Yard, air: &mut [u8], lane: u8, frame: u32) -> Stepped
 }
 
 fn run_beacon(y: Yard, air: &mut [u8], lane: u8) -> Stepped
-    ensures { λ r. ⌜ r ≡ stepped (world y (now (air .entry))) (one (beacon lane)) ⌝ }
-    ensures bytes { λ _. ⌜ now (air .exit) ≡ step (world y (now (air .entry))) (one (beacon lane)) .air ⌝ }
+    ensures { λ r. ⌜ r ≡ stepped (worldOf y (now (air .entry))) (one (beacon lane)) ⌝ }
+    ensures bytes { λ _. ⌜ now (air .exit) ≡ step (worldOf y (now (air .entry))) (one (beacon lane)) .air ⌝ }
 {
     let done = yard::beacon(y, air, lane as usize);
     let answer = done.answer;
@@ -124,8 +124,8 @@ fn run_beacon(y: Yard, air: &mut [u8], lane: u8) -> Stepped
 }
 
 fn run_roll(y: Yard, air: &mut [u8]) -> Stepped
-    ensures { λ r. ⌜ r ≡ stepped (world y (now (air .entry))) roll ⌝ }
-    ensures bytes { λ _. ⌜ now (air .exit) ≡ step (world y (now (air .entry))) roll .air ⌝ }
+    ensures { λ r. ⌜ r ≡ stepped (worldOf y (now (air .entry))) roll ⌝ }
+    ensures bytes { λ _. ⌜ now (air .exit) ≡ step (worldOf y (now (air .entry))) roll .air ⌝ }
 {
     let called = roll::call(y, air);
     let answer = called.answer;

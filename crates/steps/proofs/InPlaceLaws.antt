@@ -7,7 +7,7 @@ use borrow.Author.Tests.{eqb-true}
 use Rattle.frame.specs.declared.Frame.{Frame}
 use Rattle.post.specs.declared.Post.{Post}
 use Rattle.post.specs.Record.{isSource, lastOf}
-use Rattle.post.specs.Taking.{kept, ticked, ordered, raisedPost, taken}
+use Rattle.post.specs.Taking.{kept, ticked, ownTaken, raisedPost, taken}
 use Rattle.deliver.specs.Delivery.{delivered}
 use Rattle.steps.specs.Refusals.{isOrder, isNext, orderRefusal, hearRefusal}
 use Rattle.steps.specs.Steps.{orderSent, orderStep, hearTaken, otherAnswer, hearOther, hearStep}
@@ -91,7 +91,7 @@ hear-answers p f = go (eqb (hearRefusal p f) 0) (isNext f (lastOf p (f .lane))) 
 
 -- before delivery the log is as it was
 pub order-log : (p : Post) (word : ℕ) → (orderTook p word .log ≡ p .log) × (orderTook p word .logged ≡ p .logged)
-unfolding orderTook ordered kept ticked
+unfolding orderTook ownTaken kept ticked
 order-log p word = go (eqb (orderRefusal p) 0) refl
   where
     go : (b : Bool) → eqb (orderRefusal p) 0 ≡ b → (orderTook p word .log ≡ p .log) × (orderTook p word .logged ≡ p .logged)

@@ -17,7 +17,7 @@ use Rattle.post.specs.declared.Head.{Head}
 use Rattle.post.specs.declared.Post.{Post}
 use Rattle.post.specs.Record.{isSource, lastOf, postOf, withClock, withOrders}
 use Rattle.post.specs.Newest.{raisedBelow, newestEntries}
-use Rattle.post.specs.Taking.{kept, ticked, ordered, raisedPost, taken}
+use Rattle.post.specs.Taking.{kept, ticked, ownTaken, raisedPost, taken}
 use Rattle.deliver.specs.declared.Delivered.{Delivered}
 use Rattle.deliver.specs.Delivery.{delivered, stampAt}
 use Rattle.steps.specs.Refusals.{orderRefusal, orderRefusalBy, isNext, hearRefusal, hearRefusalBy}
@@ -51,18 +51,18 @@ can-rise lane posts sources serial clock z =
 pub take-own-is : (p : Post) (word place : ℕ) (table last stamps words : List ℕ) → place ≡ orderPlace (p .lane) (p .serial .0 + 1)
     → table ≡ withStamp (p .table) (p .lane) (p .serial .0 + 1) (p .clock .0 + 1) → last ≡ set (p .last) (p .lane) (p .serial .0 + 1)
     → stamps ≡ set (p .stamps) place (p .clock .0 + 1) → words ≡ set (p .words) place word
-    → withOrders (withClock p (p .clock .0 + 1) (p .serial .0 + 1) table) last stamps words ≡ ordered p word
-unfolding ordered kept ticked
+    → withOrders (withClock p (p .clock .0 + 1) (p .serial .0 + 1) table) last stamps words ≡ ownTaken p word
+unfolding ownTaken kept ticked
 take-own-is p word place table last stamps words e et el es ew = rw (et, el, es, ew, e)
 
-pub send-frame : (p q : Post) (word : ℕ) (entries : List Entry) → q ≡ ordered p word → entries ≡ newestEntries (q .table)
+pub send-frame : (p q : Post) (word : ℕ) (entries : List Entry) → q ≡ ownTaken p word → entries ≡ newestEntries (q .table)
     → _≡_ {A = Frame}
     (record { kind = 1; sender = p .lane; lane = p .lane; serial = q .serial; stamp = q .clock; word = word; entries = entries })
     (orderSent p word .frame)
-unfolding orderSent ordered kept ticked
+unfolding orderSent ownTaken kept ticked
 send-frame p q word entries e en = rw (en, e)
 
-pub order-took : (p q : Post) (word n m : ℕ) (g : Frame) → n ≡ orderRefusal p → n ≡ 0 → m ≡ 0 → q ≡ ordered p word → g ≡ orderSent p word .frame
+pub order-took : (p q : Post) (word n m : ℕ) (g : Frame) → n ≡ orderRefusal p → n ≡ 0 → m ≡ 0 → q ≡ ownTaken p word → g ≡ orderSent p word .frame
     → (m ≡ orderRefusal p) × (q ≡ orderTook p word) × (g ≡ orderStep p word .frame)
 unfolding orderStep orderTook
 order-took p q word n m g e z em eq eg =

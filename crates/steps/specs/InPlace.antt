@@ -6,14 +6,14 @@ use Rattle.frame.specs.declared.Frame.{Frame}
 use Rattle.post.specs.declared.Head.{Head}
 use Rattle.post.specs.declared.Post.{Post}
 use Rattle.post.specs.Record.{lastOf}
-use Rattle.post.specs.Taking.{ordered, raisedPost, taken}
+use Rattle.post.specs.Taking.{ownTaken, raisedPost, taken}
 use Rattle.steps.specs.Refusals.{orderRefusal, isNext, hearRefusal}
 use Rattle.steps.specs.Steps.{otherAnswer}
 use Rattle.steps.specs.declared.HearAnswer as hearings
 
 -- an order taken, before delivery; the post as it was where the order is refused
 unfoldable pub orderTook : Post → ℕ → Post
-orderTook p word = cond (eqb (orderRefusal p) 0) (ordered p word) p
+orderTook p word = cond (eqb (orderRefusal p) 0) (ownTaken p word) p
 
 -- a hearing's parts 1 to 3, before delivery; the post as it was where it is refused
 unfoldable pub hearTook : Post → Frame → Post

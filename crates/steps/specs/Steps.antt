@@ -7,7 +7,7 @@ use Rattle.frame.specs.declared.Frame.{Frame}
 use Rattle.post.specs.declared.Post.{Post}
 use Rattle.post.specs.Record.{lastOf}
 use Rattle.post.specs.Newest.{orderFrame, beaconFrame}
-use Rattle.post.specs.Taking.{ordered, raisedPost, taken}
+use Rattle.post.specs.Taking.{ownTaken, raisedPost, taken}
 use Rattle.deliver.specs.Delivery.{delivered}
 use Rattle.steps.specs.Refusals.{orderRefusal, isOrder, isNext, hearRefusal, beaconRefusal}
 use Rattle.steps.specs.declared.OrderAnswer as orders
@@ -20,7 +20,7 @@ use Rattle.steps.specs.declared.Beaconed.{Beaconed}
 -- "It broadcasts an order frame, then delivers." "An order answers with its serial, its stamp and the count delivered"
 unfoldable pub orderSent : Post → ℕ → Ordered
 orderSent p word =
-    let q = ordered p word in
+    let q = ownTaken p word in
     record {
       answer = orders.the-variants.Sent (q .serial) (q .clock) (delivered q .count);
       post = delivered q .post;

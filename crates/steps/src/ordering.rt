@@ -9,7 +9,7 @@ ghost use mathlib.Core.Path.{_≡_};
 ghost use mathlib.Core.List.{List};
 ghost use Prim.Native.Nat.{ℕ, _<_};
 ghost use Rattle.post.specs.Record.{postOf};
-ghost use Rattle.post.specs.Taking.{ordered};
+ghost use Rattle.post.specs.Taking.{ownTaken};
 ghost use Rattle.steps.specs.Refusals.{orderRefusalBy};
 ghost use Rattle.steps.specs.Steps.{orderSent};
 
@@ -34,7 +34,7 @@ pub(crate) fn send(
 ) -> Took
     requires { ⌜ (h .clock .0 < 65535) × (h .serial .0 < 16) ⌝ }
     ensures { λ r. ⌜ r .number ≡ 0 ⌝ }
-    ensures post { λ r. ⌜ ((log : List ℕ) → postOf (r .head) (now (last .exit)) (now (table .exit)) (now (stamps .exit)) (now (words .exit)) log ≡ ordered (postOf h (now (last .entry)) (now (table .entry)) (now (stamps .entry)) (now (words .entry)) log) word) ⌝ }
+    ensures post { λ r. ⌜ ((log : List ℕ) → postOf (r .head) (now (last .exit)) (now (table .exit)) (now (stamps .exit)) (now (words .exit)) log ≡ ownTaken (postOf h (now (last .entry)) (now (table .entry)) (now (stamps .entry)) (now (words .entry)) log) word) ⌝ }
     ensures frame { λ r. ⌜ ((log : List ℕ) → r .frame ≡ orderSent (postOf h (now (last .entry)) (now (table .entry)) (now (stamps .entry)) (now (words .entry)) log) word .frame) ⌝ }
 {
     let head = take_own(h, word, last, table, stamps, words);
@@ -67,7 +67,7 @@ fn take_own(
     words: &mut [u16; 128],
 ) -> Head
     requires { ⌜ (h .clock .0 < 65535) × (h .serial .0 < 16) ⌝ }
-    ensures { λ r. ⌜ ((log : List ℕ) → postOf r (now (last .exit)) (now (table .exit)) (now (stamps .exit)) (now (words .exit)) log ≡ ordered (postOf h (now (last .entry)) (now (table .entry)) (now (stamps .entry)) (now (words .entry)) log) word) ⌝ }
+    ensures { λ r. ⌜ ((log : List ℕ) → postOf r (now (last .exit)) (now (table .exit)) (now (stamps .exit)) (now (words .exit)) log ≡ ownTaken (postOf h (now (last .entry)) (now (table .entry)) (now (stamps .entry)) (now (words .entry)) log) word) ⌝ }
 {
     let clock = Stamp(h.clock.0 + 1);
     let serial = Serial(h.serial.0 + 1);

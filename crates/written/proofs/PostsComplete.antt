@@ -14,7 +14,7 @@ use Rattle.text.specs.Decimal.{decimal}
 use Rattle.cells.specs.Sets.{hasLane}
 use Rattle.lines.specs.declared.YardScan.{YardScan}
 use Rattle.lines.specs.Scan.{stands}
-use Rattle.lines.specs.Forms.{readPost, bitOf, withPost, postsRead}
+use Rattle.lines.specs.Forms.{readPost, bitOf, postAdded, postsRead}
 use Rattle.written.specs.Written.{roleText, postTexts, Roles}
 use Rattle.written.proofs.Here.{Here, here-split, here-stands, stands-here, here-head}
 use Rattle.written.proofs.Posts.{roleName, postText, post-complete}
@@ -83,8 +83,8 @@ module _ (s : List ℕ) (from p so d : ℕ) (fs : Roles p so) (fd : Roles p d) w
   post-here k e w = here-split s (postTexts p so d k) (postText k (roleText so d k)) from (rw (post-yes p so d k e) at w) .1
 
   -- a post is read
-  read-on : (k : ℕ) → k < 8 → hasLane p k ≡ true → Here s from (postTexts p so d (suc k)) → withPost (upTo k) (readPost s (upTo k .at)) ≡ upTo (suc k)
-  unfolding withPost
+  read-on : (k : ℕ) → k < 8 → hasLane p k ≡ true → Here s from (postTexts p so d (suc k)) → postAdded (upTo k) (readPost s (upTo k .at)) ≡ upTo (suc k)
+  unfolding postAdded
   read-on k h e w =
       let role = roleOf (hasLane so k) (hasLane d k) in
       let t : postTexts p so d (suc k) ≡ postTexts p so d k ++ postText k (roleName role) =

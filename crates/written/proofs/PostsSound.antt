@@ -12,7 +12,7 @@ use Rattle.text.specs.Bytes.{bytes}
 use Rattle.lines.specs.declared.Scan.{Scan}
 use Rattle.lines.specs.declared.YardScan.{YardScan}
 use Rattle.lines.specs.Scan.{stands}
-use Rattle.lines.specs.Forms.{readPost, bitOf, withPost, postsRead}
+use Rattle.lines.specs.Forms.{readPost, bitOf, postAdded, postsRead}
 use Rattle.written.specs.Written.{postTexts, Roles}
 use Rattle.lines.proofs.Laws.{both}
 use Rattle.written.proofs.Here.{Here, here-join}
@@ -70,8 +70,8 @@ module _ (s : List ℕ) (from : ℕ) where
   unfoldable pub ReadPosts : YardScan → Type 0
   ReadPosts y = y .ok ≡ true → y .rising ≡ true → Posts (y .posts) (y .sources) (y .dests) (y .at)
 
-  read-more : (y : YardScan) → ReadPosts y → y .ok ≡ true → ReadPosts (withPost y (readPost s (y .at)))
-  unfolding ReadPosts withPost
+  read-more : (y : YardScan) → ReadPosts y → y .ok ≡ true → ReadPosts (postAdded y (readPost s (y .at)))
+  unfolding ReadPosts postAdded
   read-more y f e k r =
       let c = post-sound s (y .at) k in
       let b = both (y .rising) (ltb (y .posts) (bitOf (readPost s (y .at) .earlier))) r in
@@ -86,9 +86,9 @@ module _ (s : List ℕ) (from : ℕ) where
   unfolding postsRead
   posts-sound y zero f = f
   posts-sound y (suc n) f =
-      go (y .ok && stands s (y .at) (bytes " (")) refl (λ e. posts-sound (withPost y (readPost s (y .at))) n (read-more y f (both (y .ok) _ e .0)))
+      go (y .ok && stands s (y .at) (bytes " (")) refl (λ e. posts-sound (postAdded y (readPost s (y .at))) n (read-more y f (both (y .ok) _ e .0)))
     where
-      go : (t : Bool) → (y .ok && stands s (y .at) (bytes " (")) ≡ t → ((y .ok && stands s (y .at) (bytes " (")) ≡ true → ReadPosts (postsRead s (withPost y (readPost s (y .at))) n))
-          → ReadPosts (cond t (postsRead s (withPost y (readPost s (y .at))) n) y)
+      go : (t : Bool) → (y .ok && stands s (y .at) (bytes " (")) ≡ t → ((y .ok && stands s (y .at) (bytes " (")) ≡ true → ReadPosts (postsRead s (postAdded y (readPost s (y .at))) n))
+          → ReadPosts (cond t (postsRead s (postAdded y (readPost s (y .at))) n) y)
       go true e g = g e
       go false e g = f

@@ -12,7 +12,7 @@ use Rattle.lines.specs.declared.Line.{Line}
 use Rattle.lines.specs.declared.Line.the-variants.{Order, Hear, Beacon, Roll, Refused}
 use Rattle.lines.specs.Scan.{startAt}
 use Rattle.lines.specs.Forms.{readForm, orderForm, hearForm, beaconForm, rollForm}
-use Rattle.lines.specs.Lines.{lineAt, hearOr, beaconOr, rollOr, yardOr, orderLine, hearLine, beaconLine, rollLine, stepRefusal, numberOf, nextOf}
+use Rattle.lines.specs.Lines.{lineAt, hearOr, beaconOr, rollOr, yardOr, orderLine, hearLine, beaconLine, rollLine, stepLineRefusal, numberOf, nextOf}
 use Rattle.written.specs.Written.{lineText, Right}
 use Rattle.lines.proofs.Laws.{step-right}
 use Rattle.written.proofs.Here.{Here}
@@ -30,8 +30,8 @@ order-line : (s : List ℕ) (at : ℕ) → readForm s orderForm at .ok ≡ true 
 unfolding orderLine Sound Written lineText
 order-line s at q = let w = two-sound s (bytes "(order ") at q in rw (w .5) (go (w .0) (w .1) (w .4) _ refl)
   where
-    go : (a b : ℕ) → Here s at (text2 (bytes "(order ") a b) → (t : Bool) → eqb (stepRefusal at a b) 0 ≡ t
-        → Sound s at (cond t (Order a b (at + length (text2 (bytes "(order ") a b))) (Refused (stepRefusal at a b)))
+    go : (a b : ℕ) → Here s at (text2 (bytes "(order ") a b) → (t : Bool) → eqb (stepLineRefusal at a b) 0 ≡ t
+        → Sound s at (cond t (Order a b (at + length (text2 (bytes "(order ") a b))) (Refused (stepLineRefusal at a b)))
     go a b h true e n = let z = step-right at a b (eqb-true _ _ e) in ((omega (arith, z .0), omega (arith, z .1), omega (arith, z .2)), h, refl)
     go a b h false e n = absurd (eqb-false _ _ e n)
 
@@ -39,8 +39,8 @@ hear-line : (s : List ℕ) (at : ℕ) → readForm s hearForm at .ok ≡ true �
 unfolding hearLine Sound Written lineText
 hear-line s at q = let w = two-sound s (bytes "(hear ") at q in rw (w .5) (go (w .0) (w .1) (w .3) (w .4) _ refl)
   where
-    go : (a b : ℕ) → b < 100000 → Here s at (text2 (bytes "(hear ") a b) → (t : Bool) → eqb (stepRefusal at a 0) 0 ≡ t
-        → Sound s at (cond t (Hear a b (at + length (text2 (bytes "(hear ") a b))) (Refused (stepRefusal at a 0)))
+    go : (a b : ℕ) → b < 100000 → Here s at (text2 (bytes "(hear ") a b) → (t : Bool) → eqb (stepLineRefusal at a 0) 0 ≡ t
+        → Sound s at (cond t (Hear a b (at + length (text2 (bytes "(hear ") a b))) (Refused (stepLineRefusal at a 0)))
     go a b l h true e n = let z = step-right at a 0 (eqb-true _ _ e) in ((z .0, z .1, l), h, refl)
     go a b l h false e n = absurd (eqb-false _ _ e n)
 
@@ -48,8 +48,8 @@ beacon-line : (s : List ℕ) (at : ℕ) → readForm s beaconForm at .ok ≡ tru
 unfolding beaconLine Sound Written lineText
 beacon-line s at q = let w = one-sound s (bytes "(beacon ") at q in rw (w .3) (go (w .0) (w .2) _ refl)
   where
-    go : (a : ℕ) → Here s at (text1 (bytes "(beacon ") a) → (t : Bool) → eqb (stepRefusal at a 0) 0 ≡ t
-        → Sound s at (cond t (Beacon a (at + length (text1 (bytes "(beacon ") a))) (Refused (stepRefusal at a 0)))
+    go : (a : ℕ) → Here s at (text1 (bytes "(beacon ") a) → (t : Bool) → eqb (stepLineRefusal at a 0) 0 ≡ t
+        → Sound s at (cond t (Beacon a (at + length (text1 (bytes "(beacon ") a))) (Refused (stepLineRefusal at a 0)))
     go a h true e n = let z = step-right at a 0 (eqb-true _ _ e) in ((omega (arith, z .0), omega (arith, z .1)), h, refl)
     go a h false e n = absurd (eqb-false _ _ e n)
 
@@ -57,8 +57,8 @@ roll-line : (s : List ℕ) (at : ℕ) → readForm s rollForm at .ok ≡ true �
 unfolding rollLine Sound Written lineText
 roll-line s at q = let w = text-sound s (bytes "(roll)\n") (startAt at) q in rw (w .2) (go (w .1) _ refl)
   where
-    go : Here s at (bytes "(roll)\n") → (t : Bool) → eqb (stepRefusal at 0 0) 0 ≡ t
-        → Sound s at (cond t (Roll (at + length (bytes "(roll)\n"))) (Refused (stepRefusal at 0 0)))
+    go : Here s at (bytes "(roll)\n") → (t : Bool) → eqb (stepLineRefusal at 0 0) 0 ≡ t
+        → Sound s at (cond t (Roll (at + length (bytes "(roll)\n"))) (Refused (stepLineRefusal at 0 0)))
     go h true e n = (step-right at 0 0 (eqb-true _ _ e) .0, h, refl)
     go h false e n = absurd (eqb-false _ _ e n)
 

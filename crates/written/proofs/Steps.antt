@@ -12,7 +12,7 @@ use Rattle.lines.specs.declared.Scan.{Scan}
 use Rattle.lines.specs.declared.Line.the-variants.{Order, Hear, Beacon, Roll}
 use Rattle.lines.specs.Scan.{readText, readNumber, startAt}
 use Rattle.lines.specs.Forms.{Item, text, number, readItems, readForm, orderForm, hearForm, beaconForm, rollForm}
-use Rattle.lines.specs.Lines.{lineAt, hearOr, beaconOr, rollOr, yardOr, orderLine, hearLine, beaconLine, rollLine, stepRefusal}
+use Rattle.lines.specs.Lines.{lineAt, hearOr, beaconOr, rollOr, yardOr, orderLine, hearLine, beaconLine, rollLine, stepLineRefusal}
 use Rattle.written.proofs.Here.{Here, here-at}
 use Rattle.written.proofs.Number.{done, number-sound}
 use Rattle.written.proofs.Forms.{text-sound, text-complete, text1, text2, one-complete, two-complete}
@@ -57,7 +57,7 @@ not-roll s at x n p = other s (bytes "oll)\n") [] at x 114 40 n p
 
 pub order-complete : (s : List ℕ) (at lane word : ℕ) → 0 < at → lane < 8 → word < 65536 → Here s at (text2 (bytes "(order ") lane word)
     → lineAt s at ≡ Order lane word (at + length (text2 (bytes "(order ") lane word))
-unfolding lineAt orderLine stepRefusal
+unfolding lineAt orderLine stepLineRefusal
 order-complete s at lane word p l k h =
     let r : readForm s orderForm at ≡ done (at + length (text2 (bytes "(order ") lane word)) lane word =
     two-complete s (bytes "(order ") at lane word (omega arith) (omega arith) h in
@@ -65,7 +65,7 @@ order-complete s at lane word p l k h =
 
 pub hear-complete : (s : List ℕ) (at lane frame : ℕ) → 0 < at → lane < 8 → frame < 100000 → Here s at (text2 (bytes "(hear ") lane frame)
     → lineAt s at ≡ Hear lane frame (at + length (text2 (bytes "(hear ") lane frame))
-unfolding lineAt hearOr hearLine stepRefusal
+unfolding lineAt hearOr hearLine stepLineRefusal
 hear-complete s at lane frame p l k h =
     let x : getD s (at + 1) 0 ≡ 104 = here-at s (text2 (bytes "(hear ") lane frame) at 1 h (omega arith) in
     let r : readForm s hearForm at ≡ done (at + length (text2 (bytes "(hear ") lane frame)) lane frame =
@@ -74,7 +74,7 @@ hear-complete s at lane frame p l k h =
 
 pub beacon-complete : (s : List ℕ) (at lane : ℕ) → 0 < at → lane < 8 → Here s at (text1 (bytes "(beacon ") lane)
     → lineAt s at ≡ Beacon lane (at + length (text1 (bytes "(beacon ") lane))
-unfolding lineAt hearOr beaconOr beaconLine stepRefusal
+unfolding lineAt hearOr beaconOr beaconLine stepLineRefusal
 beacon-complete s at lane p l h =
     let x : getD s (at + 1) 0 ≡ 98 = here-at s (text1 (bytes "(beacon ") lane) at 1 h (omega arith) in
     let r : readForm s beaconForm at ≡ done (at + length (text1 (bytes "(beacon ") lane)) 0 lane =
@@ -82,7 +82,7 @@ beacon-complete s at lane p l h =
     rw (not-order s at 98 refl x, not-hear s at 98 refl x, r, ne-eqb at 0 (λ q. omega arith), le-ltb 7 lane (omega arith))
 
 pub roll-complete : (s : List ℕ) (at : ℕ) → 0 < at → Here s at (bytes "(roll)\n") → lineAt s at ≡ Roll (at + length (bytes "(roll)\n"))
-unfolding lineAt hearOr beaconOr rollOr rollLine stepRefusal
+unfolding lineAt hearOr beaconOr rollOr rollLine stepLineRefusal
 roll-complete s at p h =
     let x : getD s (at + 1) 0 ≡ 114 = here-at s (bytes "(roll)\n") at 1 h (omega arith) in
     let r : readForm s rollForm at ≡ done (at + length (bytes "(roll)\n")) 0 0 = text-complete s (bytes "(roll)\n") at 0 0 h in

@@ -12,7 +12,7 @@ use Rattle.lines.specs.declared.Scan.{Scan}
 use Rattle.lines.specs.declared.YardScan.{YardScan}
 use Rattle.lines.specs.declared.Line.the-variants.{Yard, Refused}
 use Rattle.lines.specs.Scan.{stands, startAt, readText}
-use Rattle.lines.specs.Forms.{readPost, withPost, postsRead, noPosts, scanOf, yardPosts, readYard}
+use Rattle.lines.specs.Forms.{readPost, postAdded, postsRead, noPosts, scanOf, yardPosts, readYard}
 use Rattle.lines.specs.Lines.{lineAt, yardOr, yardLine, numberOf}
 use Rattle.written.specs.Written.{postTexts, lineText, Right}
 use Rattle.lines.proofs.Laws.{both}
@@ -38,7 +38,7 @@ unfolding postsRead
 ok-back s y zero k = k
 ok-back s y (suc n) k = go (y .ok && stands s (y .at) (bytes " (")) refl k
   where
-    go : (t : Bool) → (y .ok && stands s (y .at) (bytes " (")) ≡ t → cond t (postsRead s (withPost y (readPost s (y .at))) n) y .ok ≡ true → y .ok ≡ true
+    go : (t : Bool) → (y .ok && stands s (y .at) (bytes " (")) ≡ t → cond t (postsRead s (postAdded y (readPost s (y .at))) n) y .ok ≡ true → y .ok ≡ true
     go true e q = both (y .ok) _ e .0
     go false e q = q
 

@@ -10,7 +10,7 @@ use Rattle.frame.specs.declared.Frame.{Frame}
 use Rattle.air.specs.Air.{badAir}
 use Rattle.post.specs.declared.Post.{Post}
 use Rattle.post.specs.Record.{lastOf}
-use Rattle.post.specs.Taking.{ordered, kept, ticked, raisedPost, taken}
+use Rattle.post.specs.Taking.{ownTaken, kept, ticked, raisedPost, taken}
 use Rattle.deliver.specs.Delivery.{delivered}
 use Rattle.steps.specs.Answers.{orderNumber, orderSerial, orderStamp, orderCount, hearNumber, hearCount, beaconNumber}
 use Rattle.steps.specs.Refusals.{notInYard, isOrder, isNext, orderRefusal, hearRefusal}
@@ -40,13 +40,13 @@ Tells a number serial stamp count = (orderNumber a ≡ number) × ((orderSerial 
 
 step-tells : (p : Post) (word : ℕ)
     → Tells (orderStep p word .answer) (orderRefusal p) (cond (eqb (orderRefusal p) 0) (p .serial .0 + 1) 0) (cond (eqb (orderRefusal p) 0) (p .clock .0 + 1) 0)
-    (cond (eqb (orderRefusal p) 0) (delivered (ordered p word) .count) 0)
-unfolding orderStep orderSent ordered kept ticked
+    (cond (eqb (orderRefusal p) 0) (delivered (ownTaken p word) .count) 0)
+unfolding orderStep orderSent ownTaken kept ticked
 step-tells p word = go (eqb (orderRefusal p) 0) refl
   where
     go : (b : Bool) → eqb (orderRefusal p) 0 ≡ b
         → Tells (orderStep p word .answer) (orderRefusal p) (cond (eqb (orderRefusal p) 0) (p .serial .0 + 1) 0) (cond (eqb (orderRefusal p) 0) (p .clock .0 + 1) 0)
-        (cond (eqb (orderRefusal p) 0) (delivered (ordered p word) .count) 0)
+        (cond (eqb (orderRefusal p) 0) (delivered (ownTaken p word) .count) 0)
     go true e = (laws.order-number p word, (rw e, (rw e, rw e)))
     go false e = (laws.order-number p word, (rw e, (rw e, rw e)))
 

@@ -11,7 +11,7 @@ use Rattle.air.specs.Air.{badAir, notOnAir, stretchAt, placeRefusal, airWith}
 use Rattle.cells.specs.Tables.{orderPlace}
 use Rattle.post.specs.declared.Post.{Post}
 use Rattle.post.specs.Record.{lastOf}
-use Rattle.post.specs.Taking.{ordered, raisedPost, taken}
+use Rattle.post.specs.Taking.{ownTaken, raisedPost, taken}
 use Rattle.deliver.specs.Delivery.{delivered}
 use Rattle.steps.specs.Refusals.{notInYard, isNext, orderRefusal, hearRefusal}
 use Rattle.steps.specs.Steps.{orderStep, hearStep, beaconStep}
@@ -95,7 +95,7 @@ unfoldable pub orderStampInYard : List ℕ → Yard → ℕ → ℕ → ℕ
 orderStampInYard air y lane word = cond (eqb (orderRefusalInYard air y lane word) 0) (postAt y lane .clock .0 + 1) 0
 
 unfoldable pub orderCountInYard : List ℕ → Yard → ℕ → ℕ → ℕ
-orderCountInYard air y lane word = cond (eqb (orderRefusalInYard air y lane word) 0) (delivered (ordered (postAt y lane) word) .count) 0
+orderCountInYard air y lane word = cond (eqb (orderRefusalInYard air y lane word) 0) (delivered (ownTaken (postAt y lane) word) .count) 0
 
 -- ---- hear: 4, 13, 21 and 25, what reading refuses (never in a yard), then 21, 24, 26 and 28 to 30 of the post's own step
 

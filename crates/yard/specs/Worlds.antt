@@ -9,6 +9,9 @@ pub record World : Type 0 where
   pub yard : Yard
   pub air : List ℕ
 
+abbrev pub worldOf : Yard → List ℕ → World
+worldOf y air = record { yard = y; air = air }
+
 -- a single step, with any arguments: lane and word, lane and frame, lane
 pub data Single : Type 0 where
   order : ℕ → ℕ → Single

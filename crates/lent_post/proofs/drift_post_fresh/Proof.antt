@@ -43,7 +43,7 @@ use Rattle.post.specs.declared.Post.{Post}
 use Rattle.post.proofs.Post as T
 use Rattle.post.proofs.Post.Laws as T′
 use Rattle.lent_post.specs.declared.Made.{Made}
-use Rattle.lent_post.specs.Lent.{made}
+use Rattle.lent_post.specs.Lent.{lentFresh}
 use Rattle.lent_post.proofs.Records.{mach, refusal-fits, made-is}
 use Rattle.lent_post.proofs.Made as D
 use Rattle.lent_post.proofs.Made.Laws as D′
@@ -103,10 +103,10 @@ module _ {M : Type 1} (𝓤 : URA M) (H : Heap 𝓤) (A : Atoms 𝓤) (W : Given
   goes-step : ent 𝓤 (⋆ 𝓤 H A (‵ ftrue ∷ ‵ Taken ∷ [])) (ByValue 𝓤 H A at-mem run .pre to-step)
   goes-step = qed W (‵ ftrue ∷ ‵ Taken ∷ []) ∵ join ! $ frame ! $ done !
 
-  said : (r : Made) → ent 𝓤 (ensured 𝓤 H A step.ended (step.clauses 𝓤 H A at-mem run) tt taken tt r) (fact 𝓤 (r ≡ made h n₁ n₂ n₃ n₄))
-  said r = exE 𝓤 _ (λ ws. snd∗ 𝓤 (sem 𝓤 H A (lasts step.ended tt taken ws)) (fact 𝓤 (r ≡ made h n₁ n₂ n₃ n₄)))
+  said : (r : Made) → ent 𝓤 (ensured 𝓤 H A step.ended (step.clauses 𝓤 H A at-mem run) tt taken tt r) (fact 𝓤 (r ≡ lentFresh h n₁ n₂ n₃ n₄))
+  said r = exE 𝓤 _ (λ ws. snd∗ 𝓤 (sem 𝓤 H A (lasts step.ended tt taken ws)) (fact 𝓤 (r ≡ lentFresh h n₁ n₂ n₃ n₄)))
 
-  exits : (r : Made) → r ≡ made h n₁ n₂ n₃ n₄ → r .refusal < 2 ^ 8
+  exits : (r : Made) → r ≡ lentFresh h n₁ n₂ n₃ n₄ → r .refusal < 2 ^ 8
       → ent 𝓤 (⋆ 𝓤 H A (‵ (fobs γ (T.the-row .coded .code (r .post))) ∷ ‵ (fbor κ (Body (mem (T.the-row)) b o γ)) ∷ ‵ (flft κ q) ∷ [])) (Q (vint w8 (r .refusal)))
   exits r e fits =
       qed W (‵ (fobs γ (T.the-row .coded .code (r .post))) ∷ ‵ (fbor κ (Body (mem (T.the-row)) b o γ)) ∷ ‵ (flft κ q) ∷ []) ∵
@@ -135,7 +135,7 @@ module _ {M : Type 1} (𝓤 : URA M) (H : Heap 𝓤) (A : Atoms 𝓤) (W : Given
         move ! (21 ∷ []) $ owned ! (T.the-row) (Is (T.the-row)) ((LL.makes T.the-type T′.the-plain) 𝓤 H A) h _ is $ fjoin ! $ move ! (22 ∷ 0 ∷ []) $ use2 W (raw (ByValue 𝓤 H A at-mem run .pre to-step)) goes-step $
         calls-at ! fm (ByValue 𝓤 H A at-mem run) known to-step (and-then ! (load ! (from ! (stop !)) (look ! 8 refl)) (and-then ! (load ! (from ! (stop !)) (look ! 16 refl)) (and-then ! (load ! (from ! (stop !)) (look ! 14 refl)) (and-then ! (load ! (from ! (stop !)) (look ! 12 refl)) (and-then ! (load ! (from ! (stop !)) (look ! 10 refl)) (no-more !)))))) (λ v.
         use1 W (later (some (λ (r : Made). (‵ ftrue ⊛ ‵ (D.the-row .own r (v ∷ []))) ⊛ raw (ensured 𝓤 H A step.ended (step.clauses 𝓤 H A at-mem run) tt taken tt r)))) (id⊢ 𝓤 _) $ await ! tt $ pick ! (λ r.
-        split ! $ move ! (1 ∷ []) $ use1 W (raw (fact 𝓤 (r ≡ made h n₁ n₂ n₃ n₄))) (said r) $ heard ! (r ≡ made h n₁ n₂ n₃ n₄) (λ e. split ! $ drop ! $
+        split ! $ move ! (1 ∷ []) $ use1 W (raw (fact 𝓤 (r ≡ lentFresh h n₁ n₂ n₃ n₄))) (said r) $ heard ! (r ≡ lentFresh h n₁ n₂ n₃ n₄) (λ e. split ! $ drop ! $
         peeks ! (D.the-row) (Is (D.the-row)) (shows 𝓤 H A (D.the-row)) r (v ∷ []) (λ isr.
         -- [the result; the record's cell; what it owned; the open borrow; obs; auth; _7; …; _6; …; _5; …; _4; …; _3; …; _2; …; _1; …; _0; …]
         land ! (from ! (stop !)) (init ! 6 refl (LL.lawful D.the-type D′.the-laws 𝓤 H A W .typed r _ isr .0)) $

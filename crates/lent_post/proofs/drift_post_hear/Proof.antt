@@ -107,7 +107,7 @@ module _ {M : Type 1} (𝓤 : URA M) (H : Heap 𝓤) (A : Atoms 𝓤) (W : Given
 
   -- what the step says of its result and of the buffer's last bytes
   abbrev Said : Stepped → List ℕ → Type 0
-  Said r zs = (r ≡ lent.heard h (f .now) (y .now)) × (zs ≡ hearBuffer h (f .now) (y .now))
+  Said r zs = (r ≡ lent.lentHear h (f .now) (y .now)) × (zs ≡ hearBuffer h (f .now) (y .now))
 
   abbrev Left : Type 0
   Left = Unit {0} × (Unit {0} × (List ℕ × Unit {0}))

@@ -103,7 +103,7 @@ module _ {M : Type 1} (𝓤 : URA M) (H : Heap 𝓤) (A : Atoms 𝓤) (W : Given
 
   -- what the step says of its result and of the buffer's last bytes
   abbrev Said : Stepped → List ℕ → Type 0
-  Said r zs = (r ≡ lent.ordered h n (y .now)) × (zs ≡ orderBuffer h n (y .now))
+  Said r zs = (r ≡ lent.lentOrder h n (y .now)) × (zs ≡ orderBuffer h n (y .now))
 
   abbrev Left : Type 0
   Left = Unit {0} × (Unit {0} × (List ℕ × Unit {0}))

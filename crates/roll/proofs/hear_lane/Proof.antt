@@ -1,5 +1,5 @@
 use Rattle.roll.specs.Loops.{postWorld, hearings, laneFrames}
-use Rattle.roll.proofs.PostTurns.{Reached, ran, lane-more}
+use Rattle.roll.proofs.PostTurns.{PostTurned, ran, lane-more}
 use lib.ListN.{length}
 use Prim.Native.Nat.{_≤_, _-_}
 use mathlib.Core.Path.{_≡_, _∙_, refl}
@@ -9,7 +9,7 @@ use Rattle.roll.proofs.hear_lane.Statement.{statement}
 use Rattle.roll.proofs.hear_lane.Tie as tie
 
 abbrev Inv-loop : tie.InvT-loop
-Inv-loop air₀ frames first q n next₀ on-air₀ steps₀ serial₀ air next on-air steps serial = (serial ≤ n) × Reached (postWorld next₀ frames air₀) (laneFrames first q serial) next on-air air steps × (length air ≡ length air₀) × (steps ≡ serial)
+Inv-loop air₀ frames first q n next₀ on-air₀ steps₀ serial₀ air next on-air steps serial = (serial ≤ n) × PostTurned (postWorld next₀ frames air₀) (laneFrames first q serial) next on-air air steps × (length air ≡ length air₀) × (steps ≡ serial)
 
 abbrev μ-loop : tie.MeasureT-loop
 μ-loop air₀ frames first q n next₀ on-air₀ steps₀ serial₀ air next on-air steps serial = n - serial

@@ -1,5 +1,5 @@
 use Rattle.roll.specs.Loops.{postWorld, hearings, lanesFrames}
-use Rattle.roll.proofs.PostTurns.{Reached, ran, lanes-other, lanes-own}
+use Rattle.roll.proofs.PostTurns.{PostTurned, ran, lanes-other, lanes-own}
 use lib.ListN.{length}
 use Prim.Native.Nat.{_*_, _≤_, _-_}
 use mathlib.Core.Logic.{⊎-elim}
@@ -11,7 +11,7 @@ use Rattle.roll.proofs.hear_lanes.Statement.{statement}
 use Rattle.roll.proofs.hear_lanes.Tie as tie
 
 abbrev Inv-loop : tie.InvT-loop
-Inv-loop air₀ frames first p sent next₀ on-air₀ steps₀ q₀ air next on-air steps q = (q ≤ 8) × Reached (postWorld next₀ frames air₀) (lanesFrames first sent p q) next on-air air steps × (length air ≡ length air₀) × (steps ≤ 255 * q)
+Inv-loop air₀ frames first p sent next₀ on-air₀ steps₀ q₀ air next on-air steps q = (q ≤ 8) × PostTurned (postWorld next₀ frames air₀) (lanesFrames first sent p q) next on-air air steps × (length air ≡ length air₀) × (steps ≤ 255 * q)
 
 abbrev μ-loop : tie.MeasureT-loop
 μ-loop air₀ frames first p sent next₀ on-air₀ steps₀ q₀ air next on-air steps q = 8 - q

@@ -1,6 +1,6 @@
 use Rattle.roll.specs.RollCall.{sourcesBelow}
 use Rattle.roll.specs.Loops.{postWorld, hearings, beaconFrames}
-use Rattle.roll.proofs.PostTurns.{Reached, ran, beacon-other, beacon-own, below-more}
+use Rattle.roll.proofs.PostTurns.{PostTurned, ran, beacon-other, beacon-own, below-more}
 use lib.ListN.{length}
 use Prim.Native.Nat.{ℕ, _+_, _≤_, _-_}
 use mathlib.Core.Logic.{⊎-elim}
@@ -11,7 +11,7 @@ use Rattle.roll.proofs.hear_sources.Statement.{statement}
 use Rattle.roll.proofs.hear_sources.Tie as tie
 
 abbrev Inv-loop : tie.InvT-loop
-Inv-loop air₀ frames sources from p next₀ on-air₀ steps₀ below₀ i₀ air next on-air steps below i = (i ≤ 8) × Reached (postWorld next₀ frames air₀) (beaconFrames sources from p i) next on-air air steps × (length air ≡ length air₀) × (steps ≤ i) × (below ≡ sourcesBelow sources i) × (below ≤ i)
+Inv-loop air₀ frames sources from p next₀ on-air₀ steps₀ below₀ i₀ air next on-air steps below i = (i ≤ 8) × PostTurned (postWorld next₀ frames air₀) (beaconFrames sources from p i) next on-air air steps × (length air ≡ length air₀) × (steps ≤ i) × (below ≡ sourcesBelow sources i) × (below ≤ i)
 
 abbrev μ-loop : tie.MeasureT-loop
 μ-loop air₀ frames sources from p next₀ on-air₀ steps₀ below₀ i₀ air next on-air steps below i = 8 - i

@@ -1,7 +1,7 @@
 use Rattle.yard.specs.Worlds.{singles}
 use Rattle.yard.specs.Singles.{withBeacons}
 use Rattle.roll.specs.RollCall.{beaconsSent}
-use Rattle.roll.proofs.YardTurns.{Reached, ran, sent-more, sent-none}
+use Rattle.roll.proofs.YardTurns.{YardTurned, ran, sent-more, sent-none}
 use lib.ListN.{length}
 use Prim.Native.Nat.{_≤_, _-_}
 use mathlib.Core.Logic.{⊎-elim}
@@ -12,7 +12,7 @@ use Rattle.roll.proofs.send_beacons.Statement.{statement}
 use Rattle.roll.proofs.send_beacons.Tie as tie
 
 abbrev Inv-loop : tie.InvT-loop
-Inv-loop air₀ sources y frames₀ beacons₀ steps₀ i₀ air frames beacons steps i = (i ≤ 8) × Reached (record { yard = y; air = air₀ }) (beaconsSent sources i) (withBeacons y frames beacons) air steps × (length air ≡ length air₀) × (steps ≤ i)
+Inv-loop air₀ sources y frames₀ beacons₀ steps₀ i₀ air frames beacons steps i = (i ≤ 8) × YardTurned (record { yard = y; air = air₀ }) (beaconsSent sources i) (withBeacons y frames beacons) air steps × (length air ≡ length air₀) × (steps ≤ i)
 
 abbrev μ-loop : tie.MeasureT-loop
 μ-loop air₀ sources y frames₀ beacons₀ steps₀ i₀ air frames beacons steps i = 8 - i

@@ -1,4 +1,4 @@
-use Rattle.script.specs.Lines.{world}
+use Rattle.yard.specs.Worlds.{worldOf}
 use Rattle.script.specs.Rows.{rows, rowsYard, Good, Reached}
 use Rattle.script.proofs.SoundLaws.{reached-line}
 use Rattle.script.proofs.LineLaws.{Left, none-left, left-more}
@@ -14,12 +14,12 @@ use Rattle.script.proofs.run_lines.Tie as tie
 abbrev Inv-loop : tie.InvT-loop
 Inv-loop script air₀ output₀ s clocks₀ serials₀ loggeds₀ lasts₀ tables₀ stamps₀ words₀ logs₀ knowns₀ first₀ from frames₀ beacons₀ at₀ line₀ to₀ air output clocks serials loggeds lasts tables stamps words logs knowns first frames beacons at line to =
     (line ≤ at)
-    × Left script (world (rowsYard s (rows clocks₀ serials₀ loggeds₀ lasts₀ tables₀ stamps₀ words₀ logs₀ knowns₀) 0 0 first₀) air₀) from (out output₀ 0)
-    (world (rowsYard s (rows clocks serials loggeds lasts tables stamps words logs knowns) frames beacons first) air) at line (out output to)
+    × Left script (worldOf (rowsYard s (rows clocks₀ serials₀ loggeds₀ lasts₀ tables₀ stamps₀ words₀ logs₀ knowns₀) 0 0 first₀) air₀) from (out output₀ 0)
+    (worldOf (rowsYard s (rows clocks serials loggeds lasts tables stamps words logs knowns) frames beacons first) air) at line (out output to)
     × Good s (rows clocks serials loggeds lasts tables stamps words logs knowns)
     × (length air ≡ length air₀)
     × (length output ≡ length output₀)
-    × Reached (world (rowsYard s (rows clocks serials loggeds lasts tables stamps words logs knowns) frames beacons first) air)
+    × Reached (worldOf (rowsYard s (rows clocks serials loggeds lasts tables stamps words logs knowns) frames beacons first) air)
 
 abbrev μ-loop : tie.MeasureT-loop
 μ-loop script air₀ output₀ s clocks₀ serials₀ loggeds₀ lasts₀ tables₀ stamps₀ words₀ logs₀ knowns₀ first₀ from frames₀ beacons₀ at₀ line₀ to₀ air output clocks serials loggeds lasts tables stamps words logs knowns first frames beacons at line to =

@@ -1,8 +1,8 @@
-use Rattle.yard.specs.Worlds.{World}
+use Rattle.yard.specs.Worlds.{World, worldOf}
 use Rattle.meaning.specs.Script.{worldAfter}
 use Rattle.reader.proofs.LinesLaws.{line-above}
 use Rattle.state.specs.State.{lastBytes, noStep}
-use Rattle.state.specs.Lines.{world, rest}
+use Rattle.state.specs.Lines.{rest}
 use Rattle.state.proofs.LineLaws.{Left, all-left, none-left, left-more}
 use lib.ListN.{length}
 use Prim.Native.Nat.{_-_}
@@ -13,7 +13,7 @@ use Rattle.state.proofs.run_lines.Tie as tie
 
 abbrev Inv-loop : tie.InvT-loop
 Inv-loop script air₀ from now-yard₀ answer₀ at₀ air now-yard answer at =
-    Left script (worldAfter (world now-yard₀ air₀) (rest script from)) (lastBytes (world now-yard₀ air₀) noStep (rest script from)) (world now-yard air) answer at
+    Left script (worldAfter (worldOf now-yard₀ air₀) (rest script from)) (lastBytes (worldOf now-yard₀ air₀) noStep (rest script from)) (worldOf now-yard air) answer at
     × (length air ≡ length air₀)
 
 abbrev μ-loop : tie.MeasureT-loop

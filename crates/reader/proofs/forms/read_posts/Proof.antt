@@ -21,13 +21,13 @@ loop-holds c = (c .post-begins .ensures, posts-start _ _)
 loop-less : tie.Need-loop-less Inv-loop μ-loop
 loop-less c =
     let t = sym (c .before .before .before .before .loop .inv .0) ∙ c .before .before .before .loop-test .taken in
-    omega (arith, posts-measure _ _ _ _ t (c .before .before .read-post .ensures) (c .before .with-post .ensures))
+    omega (arith, posts-measure _ _ _ _ t (c .before .before .read-post .ensures) (c .before .post-added .ensures))
 
 loop-again : tie.Need-loop-again Inv-loop μ-loop
 loop-again c =
     let i = c .before .before .before .before .loop .inv in
     let t = sym (i .0) ∙ c .before .before .before .loop-test .taken in
-    (c .post-begins2 .ensures, posts-next _ _ _ _ _ (i .1) t (c .before .before .read-post .ensures) (c .before .with-post .ensures))
+    (c .post-begins2 .ensures, posts-next _ _ _ _ _ (i .1) t (c .before .before .read-post .ensures) (c .before .post-added .ensures))
 
 returns : tie.Need-returns Inv-loop μ-loop
 returns c = posts-end _ _ _ (c .before .loop .inv .1) (sym (c .before .loop .inv .0) ∙ c .loop-test .left)

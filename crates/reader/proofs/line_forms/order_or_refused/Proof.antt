@@ -7,22 +7,22 @@ use Rattle.reader.proofs.line_forms.order_or_refused.Statement.{stateme
 use Rattle.reader.proofs.line_forms.order_or_refused.Tie as tie
 
 cast-t9 : tie.Need-cast-t9
-cast-t9 c = omega (arith, step-small _ _ _ _ (c .before .before .step-refusal .ensures) (c .before .if2 .taken))
+cast-t9 c = omega (arith, step-small _ _ _ _ (c .before .before .step-line-refusal .ensures) (c .before .if2 .taken))
 
 cast-t10 : tie.Need-cast-t10
-cast-t10 c = omega (arith, step-small _ _ _ _ (c .before .before .before .step-refusal .ensures) (c .before .before .if2 .taken))
+cast-t10 c = omega (arith, step-small _ _ _ _ (c .before .before .before .step-line-refusal .ensures) (c .before .before .if2 .taken))
 
 returns : tie.Need-returns
 unfolding orderLine
 returns c =
     or-yes (λ (x : Scan). x .ok) (orderLine _) _ _ _ _ (c .before .before .before .before .before .read-order .ensures) (c .before .before .before .before .if1 .taken)
-    (line-yes _ _ _ _ (c .before .before .before .step-refusal .ensures) (c .before .before .if2 .taken))
+    (line-yes _ _ _ _ (c .before .before .before .step-line-refusal .ensures) (c .before .before .if2 .taken))
 
 returns-2 : tie.Need-returns-2
 unfolding orderLine
 returns-2 c =
     or-yes (λ (x : Scan). x .ok) (orderLine _) _ _ _ _ (c .before .before .before .read-order .ensures) (c .before .before .if1 .taken)
-    (line-no _ _ _ (c .before .step-refusal .ensures) (c .if2 .left))
+    (line-no _ _ _ (c .before .step-line-refusal .ensures) (c .if2 .left))
 
 returns-3 : tie.Need-returns-3
 returns-3 c = or-no (λ (x : Scan). x .ok) _ _ _ _ _ (c .before .read-order .ensures) (c .if1 .left) refl

@@ -9,13 +9,13 @@ returns : tie.Need-returns
 unfolding rollLine
 returns c =
     or-yes (λ (x : Scan). x .ok) (rollLine _) _ _ _ _ (c .before .before .before .read-roll .ensures) (c .before .before .if1 .taken)
-    (line-yes _ _ _ _ (c .before .step-refusal .ensures) (c .if2 .taken))
+    (line-yes _ _ _ _ (c .before .step-line-refusal .ensures) (c .if2 .taken))
 
 returns-2 : tie.Need-returns-2
 unfolding rollLine
 returns-2 c =
     or-yes (λ (x : Scan). x .ok) (rollLine _) _ _ _ _ (c .before .before .before .read-roll .ensures) (c .before .before .if1 .taken)
-    (line-no _ _ _ (c .before .step-refusal .ensures) (c .if2 .left))
+    (line-no _ _ _ (c .before .step-line-refusal .ensures) (c .if2 .left))
 
 returns-3 : tie.Need-returns-3
 returns-3 c = or-no (λ (x : Scan). x .ok) _ _ _ _ _ (c .before .read-roll .ensures) (c .if1 .left) refl

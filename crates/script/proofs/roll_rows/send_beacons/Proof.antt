@@ -1,6 +1,5 @@
-use Rattle.yard.specs.Worlds.{singles}
+use Rattle.yard.specs.Worlds.{singles, worldOf}
 use Rattle.roll.specs.RollCall.{beaconsSent}
-use Rattle.roll.specs.Loops.{world}
 use Rattle.script.specs.Rows.{rows, rowsYard}
 use Rattle.script.proofs.RollLaws.{sent-more}
 use lib.ListN.{length}
@@ -16,8 +15,8 @@ abbrev Inv-loop : tie.InvT-loop
 Inv-loop s clocks serials loggeds tables air₀ frames beacons now-sent₀ i₀ air now-sent i =
     (i ≤ 8)
     × ((first : List ℕ) (lasts stamps words logs knowns : List (List ℕ))
-    → world (rowsYard s (rows clocks serials loggeds lasts tables stamps words logs knowns) (now-sent .frames) (now-sent .beacons) first) air
-    ≡ singles (world (rowsYard s (rows clocks serials loggeds lasts tables stamps words logs knowns) frames beacons first) air₀) (beaconsSent (s .sources) i))
+    → worldOf (rowsYard s (rows clocks serials loggeds lasts tables stamps words logs knowns) (now-sent .frames) (now-sent .beacons) first) air
+    ≡ singles (worldOf (rowsYard s (rows clocks serials loggeds lasts tables stamps words logs knowns) frames beacons first) air₀) (beaconsSent (s .sources) i))
     × (length air ≡ length air₀)
 
 abbrev μ-loop : tie.MeasureT-loop

@@ -3,3 +3,4 @@ pub mod Loops
 pub mod Runs
 pub mod Logs
 pub mod Answers
+pub mod Taken

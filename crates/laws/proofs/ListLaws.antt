@@ -7,6 +7,7 @@ use native.Mathlib.Omega.{arith}
 use lib.ListN.{length, getD, set, length-append}
 use lib.Seq.{sets, getD-set-other}
 pub use Rattle.laws.specs.Lists.{Mem, Begins}
+pub use Rattle.laws.specs.LogAfter.{NoRepeat, RisingBy}
 
 module _ {A : Type 0} where
   pub mem-left : (x : A) (s t : List A) → Mem x s → Mem x (s ++ t)
@@ -33,11 +34,6 @@ module _ {A : Type 0} where
 
   pub begins-on : (s l m : List A) → Begins s l → Begins l m → Begins s m
   begins-on s l m b c = (b .0 ++ c .0, c .1 ∙ rw (b .1) (append-assoc s (b .0) (c .0)))
-
-  -- nothing stands in it twice
-  abbrev pub NoRepeat : List A → Type 0
-  NoRepeat [] = Unit {0}
-  NoRepeat (x ∷ l) = (Mem x l → ⊥) × NoRepeat l
 
   pub no-repeat-append : (s t : List A) → NoRepeat s → NoRepeat t → ((x : A) → Mem x s → Mem x t → ⊥) → NoRepeat (s ++ t)
   no-repeat-append [] t a b h = b
@@ -107,11 +103,6 @@ pub map-mem : (f : ℕ → ℕ) (y : ℕ) (l : List ℕ) → Mem y (map f l) →
 map-mem f y [] m = absurd m
 map-mem f y (x ∷ l) (inl e) = (x, inl refl, e)
 map-mem f y (x ∷ l) (inr m) = let r = map-mem f y l m in (r .0, inr (r .1), r .2)
-
--- keys rise strictly along a list
-abbrev pub RisingBy : (ℕ → ℕ) → List ℕ → Type 0
-RisingBy key [] = Unit {0}
-RisingBy key (x ∷ l) = ((y : ℕ) → Mem y l → key x < key y) × RisingBy key l
 
 -- the numbers rise strictly themselves
 abbrev pub Rising : List ℕ → Type 0

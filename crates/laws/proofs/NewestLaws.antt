@@ -8,7 +8,8 @@ use native.Mathlib.Omega.{arith}
 use lib.Dec.{ltb, leb, eqb}
 use lib.ListN.{length, getD, List·getD-eq-default}
 use borrow.Author.Tests.{ltb-true, leb-true, leb-false, le-ltb, ne-eqb, lt-ltb, eqb-true}
-use Rattle.frame.specs.Layout.{noEntry, entryOf, Fits}
+use Rattle.frame.specs.Layout.{noEntry, entryOf}
+use Rattle.frame.specs.Types.{Fits}
 use Rattle.frame.specs.Refusals.{badEntry, badEntries, frameRefusal}
 use Rattle.frame.specs.declared.Entry.{Entry}
 use Rattle.frame.specs.declared.Frame.{Frame}

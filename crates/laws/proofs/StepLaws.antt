@@ -5,7 +5,7 @@ use mathlib.Core.Logic.{_⊎_, inl, inr, _≢_}
 use mathlib.Core.Bool.{false}
 use Prim.Native.Nat.{ℕ, _<_}
 use Rattle.frame.specs.declared.Frame.{Frame}
-use Rattle.frame.specs.Layout.{Fits}
+use Rattle.frame.specs.Types.{Fits}
 use Rattle.frame.specs.Refusals.{frameRefusal}
 use Rattle.post.specs.declared.Post.{Post}
 use Rattle.post.specs.Taking.{ownTaken}

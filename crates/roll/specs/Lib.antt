@@ -4,3 +4,4 @@ pub mod Runs
 pub mod Logs
 pub mod Answers
 pub mod Taken
+pub mod Values

@@ -7,7 +7,7 @@ use lib.ListN.{length, getD, set}
 use Rattle.frame.specs.Lanes.{lanes}
 use Rattle.post.specs.declared.Head.{Head}
 use Rattle.post.specs.declared.Post.{Post}
-use Rattle.post.specs.Record.{postOf}
+use Rattle.post.specs.Heads.{postOf}
 use Rattle.deliver.specs.Known.{Known}
 use Rattle.yard.specs.declared.Yard.{Yard}
 use Rattle.lane_steps.specs.InPlace.{SameRoles}

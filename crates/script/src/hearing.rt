@@ -5,7 +5,7 @@ use frame::Serial;
 use lane_steps::Placed;
 use post::Head;
 ghost use mathlib.Core.Path.{_≡_};
-ghost use Rattle.post.specs.Record.{postOf};
+ghost use Rattle.post.specs.Heads.{postOf};
 ghost use Rattle.steps.specs.Refusals.{isNext};
 ghost use Rattle.lane_steps.specs.InPlace.{Left, heardIn};
 ghost use Rattle.script.specs.Rows.{Stands};

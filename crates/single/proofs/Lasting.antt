@@ -6,7 +6,8 @@ use Prim.Native.Nat.{ℕ, zero, suc, _<_}
 use native.Mathlib.Omega.{arith}
 use lib.Dec.{eqb}
 use borrow.Author.Tests.{eqb-true}
-use Rattle.frame.specs.Layout.{AreBytes, Fits, frameOf, entryOf}
+use Rattle.frame.specs.Layout.{frameOf, entryOf}
+use Rattle.frame.specs.Types.{AreBytes, Fits}
 use Rattle.frame.specs.Refusals.{badLength, readRefusal}
 use Rattle.frame.proofs.Laws.{passed, readable}
 use Rattle.post.specs.declared.Post.{Post}

@@ -1,7 +1,7 @@
 -- A post run singly from its fresh record on, through any list of steps, for `never-12`. Assumes nothing.
 use Prim.Native.Nat.{ℕ, _<_}
 use mathlib.Core.List.{List, [], _∷_}
-use Rattle.frame.specs.Layout.{AreBytes}
+use Rattle.frame.specs.Types.{AreBytes}
 use Rattle.post.specs.declared.Post.{Post}
 use Rattle.single.specs.Single.{orderSingly, hearSingly}
 

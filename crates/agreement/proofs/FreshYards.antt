@@ -84,17 +84,17 @@ module _ (present sources dests : ℕ) where
 
   module _ (small : present < 256) (smallSources : sources < 256) (smallDests : dests < 256) (z : yardRefusal present sources dests ≡ 0) where
     -- neither 3 nor 12
-    accepted : (eqb (ones present) 0 ≡ false) × (roleAstray present sources dests ≡ false)
-    accepted =
+    neither-arises : (eqb (ones present) 0 ≡ false) × (roleAstray present sources dests ≡ false)
+    neither-arises =
         let parts = passed (eqb (ones present) 0) 3 (cond (roleAstray present sources dests) 12 0) (omega arith) (unfold yardRefusal in z) in
         (parts .0, passed (roleAstray present sources dests) 12 0 (omega arith) (parts .1) .0)
 
     -- N is not 0
     pub some-ones : 0 < ones present
-    some-ones = let e = eqb-false (ones present) 0 (accepted .0) in omega arith
+    some-ones = let e = eqb-false (ones present) 0 (neither-arises .0) in omega arith
 
     first-valid : Valid (freshPost 0 present sources dests)
-    first-valid = fresh-valid 0 present sources dests (omega arith) (accepted .1)
+    first-valid = fresh-valid 0 present sources dests (omega arith) (neither-arises .1)
 
     below-eight : (set i : ℕ) → hasLane set i ≡ true → i < 8
     below-eight set i e = ltb-true i 8 (and-parts (ltb i 8) (eqb (set / 2 ^ i % 2) 1) e .0)
@@ -113,7 +113,7 @@ module _ (present sources dests : ℕ) where
       itsSources = refl;
       itsDests = refl;
       shaped = fresh-shaped lane present sources dests small smallSources smallDests;
-      valid = fresh-valid lane present sources dests l (accepted .1);
+      valid = fresh-valid lane present sources dests l (neither-arises .1);
     })
 
     pub fresh-sound : (air : List ℕ) → length air ≡ 65536 → Sound present sources dests (freshWorld present sources dests air)

@@ -165,8 +165,8 @@ module _ (present sources dests : ℕ) (air : List ℕ) (small : present < 256) 
       rolls = rolls;
     }
 
-    pub also : YardFacts w
-    also = record {
+    pub facts-hold : YardFacts w
+    facts-hold = record {
       refusals = λ steps s. each steps s .number;
       stays = λ steps s h. each steps s .stays (rw (each steps s .number) at h);
       frames = λ steps. good steps .airOk .framesCount ∙ ap (λ (n : ℕ). n + run w steps .yard .beacons) (taken-total (run w steps));
@@ -208,8 +208,8 @@ module _ (present sources dests : ℕ) (air : List ℕ) (small : present < 256) 
       rolls = λ steps n e. absurd (omega (arith, each-refused w bad roll .some, ap answerNumber (rw (stands steps) at e)));
     }
 
-    also-idle : YardFacts w
-    also-idle = record {
+    facts-idle : YardFacts w
+    facts-idle = record {
       refusals = λ steps s. rw (stands steps) (each-refused w bad s .number);
       stays = λ steps s h. rw (stands steps) (each-refused w bad s .stays);
       frames = λ steps. rw (stands steps) none-aired;
@@ -235,5 +235,5 @@ pub facts : Facts
 facts present sources dests air a b c z = go (same-or-not (length air) 65536)
   where
     go : (length air ≡ 65536) ⊎ (length air ≢ 65536) → YardFacts (freshWorld present sources dests air)
-    go (inl whole) = also present sources dests air a b c z whole
-    go (inr bad) = also-idle present sources dests air a b c z bad
+    go (inl whole) = facts-hold present sources dests air a b c z whole
+    go (inr bad) = facts-idle present sources dests air a b c z bad

@@ -21,7 +21,7 @@ use Rattle.steps.specs.declared.HearAnswer as hearings
 use Rattle.steps.proofs.InPlaceLaws as laws
 use Rattle.yard.specs.Yards.{postAt}
 use Rattle.yard.specs.Singles.{postOrders, yardOrders, yardOrdersAir, stopsHearing, frameAt, postHears, yardHears, yardHearsAir, postBeacons, yardBeacons, yardBeaconsAir}
-use Rattle.yard.specs.InYard.{orderRefusalInYard, orderSerialInYard, orderStampInYard, orderCountInYard, hearRefusalInYard, hearCountInYard, beaconRefusalInYard}
+use Rattle.yard.specs.Answers.{orderRefusalInYard, orderSerialInYard, orderStampInYard, orderCountInYard, hearRefusalInYard, hearCountInYard, beaconRefusalInYard}
 use Rattle.yard.specs.declared.Yard.{Yard}
 use Rattle.yard.specs.declared.YardOrdered.{YardOrdered}
 use Rattle.yard.specs.declared.YardHeard.{YardHeard}

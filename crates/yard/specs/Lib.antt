@@ -1,4 +1,4 @@
 pub mod Yards
 pub mod Singles
 pub mod Worlds
-pub mod InYard
+pub mod Answers

@@ -1,5 +1,5 @@
 // The yard: up to eight posts and the lent air. Every step is judged for any yard and any air, and a refusal leaves both as they were.
-// The contracts cite specs/Yards.antt and specs/Singles.antt, and specs/InYard.antt for what a step answers.
+// The contracts cite specs/Yards.antt and specs/Singles.antt, and specs/Answers.antt for what a step answers.
 pub mod parts;
 
 use air;
@@ -12,7 +12,7 @@ ghost use Rattle.yard.specs.Yards.{yardMade};
 ghost use Rattle.steps.specs.Answers.{orderNumber, hearNumber, beaconNumber};
 ghost use Rattle.steps.specs.Values.{orderSerial, orderStamp, orderCount, hearCount};
 ghost use Rattle.yard.specs.Singles.{postOrders, postOrdersAir, yardOrders, yardOrdersAir, postHears, postHearsAir, yardHears, yardHearsAir, postBeacons, postBeaconsAir, yardBeacons, yardBeaconsAir};
-ghost use Rattle.yard.specs.InYard.{orderRefusalInYard, orderSerialInYard, orderStampInYard, orderCountInYard, hearRefusalInYard, hearCountInYard, beaconRefusalInYard};
+ghost use Rattle.yard.specs.Answers.{orderRefusalInYard, orderSerialInYard, orderStampInYard, orderCountInYard, hearRefusalInYard, hearCountInYard, beaconRefusalInYard};
 
 pub const LANES: usize = 8;
 

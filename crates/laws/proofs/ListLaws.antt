@@ -105,8 +105,8 @@ map-mem f y (x ∷ l) (inl e) = (x, inl refl, e)
 map-mem f y (x ∷ l) (inr m) = let r = map-mem f y l m in (r .0, inr (r .1), r .2)
 
 -- the numbers rise strictly themselves
-abbrev pub Rising : List ℕ → Type 0
-Rising l = RisingBy (λ (x : ℕ). x) l
+abbrev pub RisingNumbers : List ℕ → Type 0
+RisingNumbers l = RisingBy (λ (x : ℕ). x) l
 
 -- where keys rise strictly, nothing stands twice
 pub rising-once : (key : ℕ → ℕ) (l : List ℕ) → RisingBy key l → NoRepeat l
@@ -114,7 +114,7 @@ rising-once key [] r = tt
 rising-once key (x ∷ l) r = (λ m. omega (arith, r .0 x m), rising-once key l (r .1))
 
 -- rising numbers that are the keys of what they are changed to
-pub rising-map : (key f : ℕ → ℕ) (l : List ℕ) → Rising l → ((x : ℕ) → Mem x l → x ≡ key (f x)) → RisingBy key (map f l)
+pub rising-map : (key f : ℕ → ℕ) (l : List ℕ) → RisingNumbers l → ((x : ℕ) → Mem x l → x ≡ key (f x)) → RisingBy key (map f l)
 rising-map key f [] r h = tt
 rising-map key f (x ∷ l) r h = (λ y m. above y (map-mem f y l m), rising-map key f l (r .1) (λ z m. h z (inr m)))
   where

@@ -9,10 +9,9 @@ use lib.Dec.{ltb}
 use lib.ListN.{length}
 use borrow.Author.Tests.{lt-ltb, le-ltb, ne-eqb}
 use Rattle.frame.specs.declared.Frame as frames
-use Rattle.frame.specs.Layout.{bytesOf, frameOf}
+use Rattle.frame.specs.Layout.{bytesOf, frameOf, noFrame}
 use Rattle.frame.specs.Refusals.{frameRefusal, badEntries, readRefusal}
 use Rattle.frame.specs.Lanes.{anyBelow}
-use Rattle.frame.specs.ReadWrite.{noFrame}
 use Rattle.frame.proofs.RoundTrip.{bytes-length, frame-bytes}
 use Rattle.frame.proofs.Theorems.{judged-alike}
 use Rattle.air.specs.Air.{stretchAt, placeRefusal, airWith}

@@ -1,25 +1,24 @@
 -- A fresh yard that is not refused: its roles, its records, and how the model sees it. Assumes nothing.
-use mathlib.Core.Path.{_≡_, refl, sym, ap, _∙_}
+use mathlib.Core.Path.{_≡_, refl, ap, _∙_}
 use mathlib.Core.List.{List, []}
 use mathlib.Core.Logic.{_⊎_, inl, inr}
-use mathlib.Core.Bool.{true, false, cond, not, _&&_, _||_}
+use mathlib.Core.Bool.{true, false, cond}
 use Prim.Native.Nat.{ℕ, zero, suc, _/_, _%_, _^_, _<_, _≤_}
 use native.Mathlib.Omega.{arith}
 use lib.Dec.{ltb, eqb}
 use lib.Count.{ones}
 use lib.ListN.{length, length-replicate, List·getD-eq-default}
 use borrow.Author.Tests.{ltb-true, eqb-false}
-use Rattle.frame.specs.Lanes.{anyBelow}
 use Rattle.frame.proofs.Laws.{passed}
-use Rattle.cells.specs.Sets.{hasLane}
+use Rattle.cells.specs.Sets.{hasLane, roleAstray}
 use Rattle.post.specs.declared.Post.{Post}
 use Rattle.post.specs.Record.{freshPost}
 use Rattle.judge.specs.Judgement.{badRecord}
 use Rattle.yard.specs.Yards.{noPost, postAt, freshYard, yardRefusal}
 use Rattle.roll.specs.Logs.{logAt}
-use Rattle.laws.proofs.TestLaws.{below-or-not, and-parts, or-parts}
-use Rattle.laws.proofs.Valid.{Valid, judged-valid, valid-judged}
-use Rattle.laws.proofs.ValidFresh.{fresh-judged, fresh-shaped, fresh-valid}
+use Rattle.laws.proofs.TestLaws.{below-or-not, and-parts}
+use Rattle.laws.proofs.Valid.{Valid, valid-judged}
+use Rattle.laws.proofs.ValidFresh.{fresh-shaped, fresh-valid}
 use Rattle.model.proofs.Model as model
 use Rattle.model.proofs.Invariants.{RolesOk}
 use Rattle.agreement.specs.Demand3.{freshWorld}
@@ -84,27 +83,18 @@ module _ (present sources dests : ℕ) where
   fresh-log air lane = ap (λ (P : model.Post). P .log) (fresh-post-view lane) ∙ (unfold model.freshPost in refl)
 
   module _ (small : present < 256) (smallSources : sources < 256) (smallDests : dests < 256) (z : yardRefusal present sources dests ≡ 0) where
+    -- neither 3 nor 12
+    neither-arises : (eqb (ones present) 0 ≡ false) × (roleAstray present sources dests ≡ false)
+    neither-arises =
+        let parts = passed (eqb (ones present) 0) 3 (cond (roleAstray present sources dests) 12 0) (omega arith) (unfold yardRefusal in z) in
+        (parts .0, passed (roleAstray present sources dests) 12 0 (omega arith) (parts .1) .0)
+
     -- N is not 0
     pub some-ones : 0 < ones present
-    some-ones = let e = eqb-false (ones present) 0 (passed (eqb (ones present) 0) 3 (cond (badRecord (freshPost 0 present sources dests)) 12 0) (omega arith) parts .0) in omega arith
-      where
-        parts : _≡_ {A = ℕ} (cond (eqb (ones present) 0) 3 (cond (badRecord (freshPost 0 present sources dests)) 12 0)) 0
-        parts = unfold yardRefusal in z
-
-    -- no record is refused
-    judged : badRecord (freshPost 0 present sources dests) ≡ false
-    judged = passed (badRecord (freshPost 0 present sources dests)) 12 0 (omega arith) (passed (eqb (ones present) 0) 3 (cond (badRecord (freshPost 0 present sources dests)) 12 0) (omega arith) parts .1) .0
-      where
-        parts : _≡_ {A = ℕ} (cond (eqb (ones present) 0) 3 (cond (badRecord (freshPost 0 present sources dests)) 12 0)) 0
-        parts = unfold yardRefusal in z
-
-    roles-judged : anyBelow (λ (i : ℕ). (hasLane sources i || hasLane dests i) && not (hasLane present i)) 8 ≡ false
-    roles-judged =
-        or-parts (ltb 7 0) (anyBelow (λ (i : ℕ). (hasLane sources i || hasLane dests i) && not (hasLane present i)) 8)
-        (sym (fresh-judged 0 present sources dests) ∙ judged) .1
+    some-ones = let e = eqb-false (ones present) 0 (neither-arises .0) in omega arith
 
     first-valid : Valid (freshPost 0 present sources dests)
-    first-valid = judged-valid (freshPost 0 present sources dests) judged
+    first-valid = fresh-valid 0 present sources dests (omega arith) (neither-arises .1)
 
     below-eight : (set i : ℕ) → hasLane set i ≡ true → i < 8
     below-eight set i e = ltb-true i 8 (and-parts (ltb i 8) (eqb (set / 2 ^ i % 2) 1) e .0)
@@ -123,7 +113,7 @@ module _ (present sources dests : ℕ) where
       itsSources = refl;
       itsDests = refl;
       shaped = fresh-shaped lane present sources dests small smallSources smallDests;
-      valid = fresh-valid lane present sources dests l roles-judged;
+      valid = fresh-valid lane present sources dests l (neither-arises .1);
     })
 
     pub fresh-sound : (air : List ℕ) → length air ≡ 65536 → Sound present sources dests (freshWorld present sources dests air)

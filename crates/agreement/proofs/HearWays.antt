@@ -8,7 +8,7 @@ use lib.Seq.{set-getD}
 use borrow.Author.Tests.{lt-ltb, le-ltb, eq-eqb, ne-eqb}
 use Rattle.frame.specs.declared.Frame.{Frame}
 use Rattle.frame.specs.Refusals.{readRefusal}
-use Rattle.frame.specs.ReadWrite.{noFrame}
+use Rattle.frame.specs.Layout.{noFrame}
 use Rattle.air.specs.Air.{stretchAt, airWith}
 use Rattle.post.specs.declared.Post.{Post}
 use Rattle.post.specs.Record.{lastOf}

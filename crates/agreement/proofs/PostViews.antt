@@ -10,7 +10,7 @@ use lib.Dec.{eqb}
 use lib.ListN.{length}
 use borrow.Author.Tests.{ltb-true}
 use Rattle.frame.specs.declared.Frame.{Frame}
-use Rattle.frame.specs.Layout.{Fits}
+use Rattle.frame.specs.Types.{Fits}
 use Rattle.frame.specs.Refusals.{frameRefusal}
 use Rattle.cells.specs.Tables.{orderPlace, withStamp}
 use Rattle.post.specs.declared.Post.{Post}

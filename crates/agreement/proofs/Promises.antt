@@ -1,25 +1,24 @@
 -- What the model's invariants promise of the yard by themselves: the list of the orders sent, serials, first frames, frames. Assumes nothing.
-use mathlib.Core.Path.{_≡_, refl, ap, _∙_, subst}
+use mathlib.Core.Path.{_≡_, refl, sym, ap, _∙_, subst}
 use mathlib.Core.List.{List}
 use mathlib.Core.Bool.{not}
 use Prim.Native.Nat.{ℕ, _<_}
 use native.Mathlib.Omega.{arith}
 use borrow.Author.Tests.{eqb-true, eq-eqb, not-false}
 use Rattle.steps.specs.Refusals.{isOrder}
-use Rattle.yard.specs.Yards.{postAt}
 use Rattle.yard.specs.Singles.{frameAt}
 use Rattle.yard.specs.Worlds.{World}
 use Rattle.roll.specs.Runs.{Step, run, Order, sent}
-use Rattle.roll.specs.Logs.{sumBelow, ordersTaken}
+use Rattle.roll.specs.Taken.{sumBelow, ordersTaken}
 use Rattle.laws.specs.Lists.{Mem}
 use Rattle.model.proofs.Model as model
 use Rattle.model.proofs.Invariants.{Sent, FrameOk, YardOk}
 use Rattle.model.proofs.OrderLists.{Apart, mem-in-order, in-order-mem, in-order-rises}
 use Rattle.model.proofs.SentOrders.{Lists}
 use Rattle.model.proofs.Air.{total, First, IsOf}
-use Rattle.agreement.specs.Demand3.{OneList, Serials, FirstFrame}
+use Rattle.agreement.specs.Demand3.{OneList}
+use Rattle.agreement.specs.YardFacts.{Serials, FirstFrame}
 use Rattle.agreement.proofs.Views.{frameView, airView, yardView}
-use Rattle.agreement.proofs.ArrayViews.{places-in}
 use Rattle.agreement.proofs.AirViews.{air-at}
 use Rattle.agreement.proofs.Beginnings.{length-in-order}
 
@@ -42,28 +41,25 @@ serials R w steps lane y l = record {
   every = λ n a b. (model.orderOf (yardView (run w steps) .posts lane) lane n, l .allListed lane n a b, refl, refl);
 }
 
--- the model's first frame of an order is that of the air; what the lane's own post keeps is what was sent
-pub first-frame : (R : model.Roles) (v : World) (lane serial k : ℕ) → YardOk R (yardView v) → serial < 17
-    → First (airView (v .air) (v .yard .frames)) (v .yard .frames) lane serial k → FirstFrame v lane serial k
-first-frame R v lane serial k y few f = record {
+-- the model's first frame of an order is that of the air, and it carries the order as it was sent
+pub first-frame : (R : model.Roles) (v : World) (o : Order) (k : ℕ) → YardOk R (yardView v) → Sent (yardView v .posts) o
+    → First (airView (v .air) (v .yard .frames)) (v .yard .frames) (o .lane) (o .serial) k → FirstFrame v o k
+first-frame R v o k y s f = record {
   onAir = f .onAir;
   kind = eqb-true (frameAt (v .air) k .kind) 1 (not-false (isOrder (frameAt (v .air) k)) (here .0));
   ofLane = here .1;
   ofSerial = here .2;
-  ofStamp = sent-order .stampIs ∙ rw (here .1, here .2) (places-in (postAt (v .yard) lane .stamps) lane serial some few);
-  ofWord = sent-order .wordIs ∙ rw (here .1, here .2) (places-in (postAt (v .yard) lane .words) lane serial some few);
+  ofStamp = carried-sent .stampIs ∙ rw (here .1, here .2) (sym (s .stampIs));
+  ofWord = carried-sent .wordIs ∙ rw (here .1, here .2) (sym (s .wordIs));
   sender = rw (air-at v k (f .onAir)) at (f .fromItsLane);
   before = λ j l e i n. f .noneEarlier j l (rw (air-at v j (omega (arith, f .onAir))) (ap not (eq-eqb (frameAt (v .air) j .kind) 1 e), i, n));
 }
   where
-    here : IsOf (frameView (frameAt (v .air) k)) lane serial
+    here : IsOf (frameView (frameAt (v .air) k)) (o .lane) (o .serial)
     here = rw (air-at v k (f .onAir)) at (f .isOf)
 
-    sent-order : Sent (yardView v .posts) (frameView (frameAt (v .air) k) .carried)
-    sent-order = subst (FrameOk R (yardView v .posts)) (air-at v k (f .onAir)) (y .framesOk k (f .onAir)) .orderSent (here .0)
-
-    some : 0 < serial
-    some = rw (here .2) at (sent-order .fromOne)
+    carried-sent : Sent (yardView v .posts) (frameView (frameAt (v .air) k) .carried)
+    carried-sent = subst (FrameOk R (yardView v .posts)) (air-at v k (f .onAir)) (y .framesOk k (f .onAir)) .orderSent (here .0)
 
 -- the orders that the posts have taken are as many in the model
 pub taken-total : (v : World) → total (yardView v .posts) ≡ ordersTaken v

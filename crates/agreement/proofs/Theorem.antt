@@ -1,8 +1,8 @@
--- DEMAND 3, proved: `agreement`. The statement is specs/Demand3.antt. Assumes nothing.
+-- DEMAND 3, proved: `agreement`, of specs/Demand3.antt; and what else holds of every yard: `facts`, of specs/YardFacts.antt. Assumes nothing.
 use mathlib.Core.Path.{_≡_, refl, sym, ap, _∙_, subst}
 use mathlib.Core.List.{List, [], _∷_, _++_, append-nil}
 use mathlib.Core.Logic.{_⊎_, inl, inr, _≢_}
-use Prim.Native.Nat.{ℕ, _+_, _-_, _<_, _≤_}
+use Prim.Native.Nat.{ℕ, _+_, _<_}
 use native.Mathlib.Omega.{arith}
 use lib.ListN.{length, getD}
 use borrow.Author.Tests.{ne-eqb}
@@ -11,18 +11,20 @@ use Rattle.yard.specs.Yards.{postAt, freshYard, yardRefusal}
 use Rattle.yard.specs.Worlds.{World}
 use Rattle.roll.specs.declared.RollAnswer as calling
 use Rattle.roll.specs.RollCall.{rollSteps, rollRefusal, rollCall}
-use Rattle.roll.specs.Runs.{Step, roll, Answer, ordered, heard, beaconed, called, answer, step, run, sent}
-use Rattle.roll.specs.Logs.{logAt, inOrder, sumBelow, ordersTaken}
+use Rattle.roll.specs.Runs.{Step, roll, Answer, ordered, heard, beaconed, called, answer, step, run, Order, sent}
+use Rattle.roll.specs.Logs.{logAt, inOrder}
 use Rattle.roll.specs.Answers.{answerNumber}
+use Rattle.roll.specs.Taken.{sumBelow, ordersTaken}
 use Rattle.laws.proofs.TestLaws.{same-or-not}
-use Rattle.laws.proofs.ListLaws.{Begins}
+use Rattle.laws.proofs.ListLaws.{Mem, Begins}
 use Rattle.laws.proofs.Valid.{valid-judged}
 use Rattle.model.proofs.Model as model
 use Rattle.model.proofs.Invariants.{RolesOk}
 use Rattle.model.proofs.Air.{total-bound}
 use Rattle.model.proofs.RollAccepted.{roll-accepted}
 use Rattle.model.proofs.Moves as moving
-use Rattle.agreement.specs.Demand3.{freshWorld, AllAccepted, AfterRollCall, FirstFrame, Demand3, Agreement}
+use Rattle.agreement.specs.Demand3.{freshWorld, AllAccepted, AfterRollCall, Demand3, Agreement}
+use Rattle.agreement.specs.YardFacts.{FirstFrame, YardFacts, Facts}
 use Rattle.agreement.proofs.Views.{rolesOf, placesView, airView, yardView}
 use Rattle.agreement.proofs.ArrayViews.{places-in}
 use Rattle.agreement.proofs.Sound.{Sound}
@@ -145,20 +147,26 @@ module _ (present sources dests : ℕ) (air : List ℕ) (small : present < 256) 
             (rw listed (roll-accepted R ro (yardView (run w steps)) (g .yardOk) (g .airOk)
             (moving.roll-room R (yardView (run w steps)) (g .airOk .beaconsAtMost) (unrefused z))))
 
-    firsts : (steps : List Step) (lane serial : ℕ) → lane < 8 → 0 < serial → serial ≤ postAt (run w steps .yard) lane .serial .0
-        → FirstFrame (run w steps) lane serial (getD (run w steps .yard .first) (orderPlace lane serial) 0)
-    firsts steps lane serial l a b =
+    firsts : (steps : List Step) (o : Order) → Mem o (sent w steps)
+        → FirstFrame (run w steps) o (getD (run w steps .yard .first) (orderPlace (o .lane) (o .serial)) 0)
+    firsts steps o m =
         let g = good steps in
-        let few : serial < 17 = omega (arith, g .yardOk .selves lane .ownAtMost) in
-        rw (← places-in (run w steps .yard .first) lane serial a few)
-        (first-frame R (run w steps) lane serial (placesView (run w steps .yard .first) lane serial) (g .yardOk) few (g .airOk .firstFrames lane serial a b))
+        let s = g .sentListed .listedSent o m in
+        let few : o .serial < 17 = omega (arith, s .wasSent, g .yardOk .selves (o .lane) .ownAtMost) in
+        rw (← places-in (run w steps .yard .first) (o .lane) (o .serial) (s .fromOne) few)
+        (first-frame R (run w steps) o (placesView (run w steps .yard .first) (o .lane) (o .serial)) (g .yardOk) s
+        (g .airOk .firstFrames (o .lane) (o .serial) (s .fromOne) (s .wasSent)))
 
-    holds : Demand3 present sources dests w
+    pub holds : Demand3 present sources dests w
     holds = record {
       logs = logs;
       list = λ steps. one-list w steps (good steps .sentListed .listedLane) (good steps .sentListed .listedApart);
       agree = agree;
       rolls = rolls;
+    }
+
+    pub facts-hold : YardFacts w
+    facts-hold = record {
       refusals = λ steps s. each steps s .number;
       stays = λ steps s h. each steps s .stays (rw (each steps s .number) at h);
       frames = λ steps. good steps .airOk .framesCount ∙ ap (λ (n : ℕ). n + run w steps .yard .beacons) (taken-total (run w steps));
@@ -198,6 +206,10 @@ module _ (present sources dests : ℕ) (air : List ℕ) (small : present < 256) 
       list = λ steps. one-list w steps (rw (nothing-sent steps) (λ o m. absurd m)) (rw (nothing-sent steps) tt);
       agree = λ steps more a b. rw (no-log steps a) (inl (logAt (run w (steps ++ more)) b, refl));
       rolls = λ steps n e. absurd (omega (arith, each-refused w bad roll .some, ap answerNumber (rw (stands steps) at e)));
+    }
+
+    facts-idle : YardFacts w
+    facts-idle = record {
       refusals = λ steps s. rw (stands steps) (each-refused w bad s .number);
       stays = λ steps s h. rw (stands steps) (each-refused w bad s .stays);
       frames = λ steps. rw (stands steps) none-aired;
@@ -209,7 +221,7 @@ module _ (present sources dests : ℕ) (air : List ℕ) (small : present < 256) 
         every = λ n a b. absurd (omega (arith, no-serial steps lane));
       };
       records = λ steps lane l. rw (stands steps) (fresh-records present sources dests small smallSources smallDests z lane l);
-      firsts = λ steps lane serial l a b. absurd (omega (arith, no-serial steps lane));
+      firsts = λ steps. rw (nothing-sent steps) (λ o m. absurd m);
     }
 
 pub agreement : Agreement
@@ -218,3 +230,10 @@ agreement present sources dests air a b c z = go (same-or-not (length air) 65536
     go : (length air ≡ 65536) ⊎ (length air ≢ 65536) → Demand3 present sources dests (freshWorld present sources dests air)
     go (inl whole) = holds present sources dests air a b c z whole
     go (inr bad) = idle present sources dests air a b c z bad
+
+pub facts : Facts
+facts present sources dests air a b c z = go (same-or-not (length air) 65536)
+  where
+    go : (length air ≡ 65536) ⊎ (length air ≢ 65536) → YardFacts (freshWorld present sources dests air)
+    go (inl whole) = facts-hold present sources dests air a b c z whole
+    go (inr bad) = facts-idle present sources dests air a b c z bad

@@ -1,2 +1,3 @@
 pub mod YardRefusals
 pub mod Demand3
+pub mod YardFacts

@@ -1,1 +1,2 @@
-// No code: demand 3. Its statement is specs/Demand3.antt; what leads to it is in proofs/.
+// No code: demand 3, and the facts of a yard. Their statements are specs/Demand3.antt and specs/YardFacts.antt; what leads to them is in
+// proofs/.

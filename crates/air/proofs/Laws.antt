@@ -2,17 +2,18 @@
 use mathlib.Core.Path.{_≡_, refl, sym, _∙_}
 use mathlib.Core.Bool.{Bool, true, false, cond, _&&_}
 use mathlib.Core.List.{List, [], _++_}
-use Prim.Native.Nat.{ℕ, _+_, _*_, _≤_, _<_}
+use Prim.Native.Nat.{ℕ, _*_, _≤_, _<_}
 use native.Mathlib.Omega.{arith}
 use borrow.Author.Tests.{eq-eqb, ne-eqb, eqb-true, eqb-false, lt-ltb, le-ltb, ltb-true, not-false}
 use lib.Dec.{eqb, ltb}
 use lib.ListN.{length, take, drop, take-append-drop, length-take, length-drop}
 use Rattle.frame.specs.Layout.{bytesOf}
-use Rattle.frame.specs.Refusals.{frameRefusal, writeRefusal}
-use Rattle.frame.specs.ReadWrite.{written}
+use Rattle.frame.specs.Refusals.{frameRefusal}
+use Rattle.frame.specs.ReadWrite.{writeRefusal, written}
 use Rattle.frame.specs.declared.Frame.{Frame}
 use Rattle.frame.proofs.Laws.{passed, write-judges, written-good, written-bad}
-use Rattle.air.specs.Air.{badAir, notOnAir, stretchRefusal, stretchAt, stretchOf, placeRefusal, placed, airWith}
+use Rattle.air.specs.Air.{badAir, notOnAir, stretchAt, placeRefusal, placed, airWith}
+use Rattle.air.specs.Stretch.{stretchRefusal, stretchOf}
 
 -- the ways through `refusal`
 pub air-short : (air : List ℕ) (frames k : ℕ) → (length air ≡ 65536 → ⊥) → 13 ≡ stretchRefusal air frames k

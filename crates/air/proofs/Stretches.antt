@@ -9,12 +9,14 @@ use Prim.Native.Nat.{ℕ, _+_, _*_, _-_, _<_}
 use native.Mathlib.Omega.{arith}
 use lib.ListN.{length, getD, take, drop, length-append, length-take, length-drop, List·getD-append}
 use lib.Seq.{getD-append-add, getD-take, getD-drop, take-at, drop-at, ext-getD}
-use Rattle.frame.specs.Layout.{Fits, bytesOf}
+use Rattle.frame.specs.Layout.{bytesOf}
+use Rattle.frame.specs.Types.{Fits}
 use Rattle.frame.specs.ReadWrite.{readOf}
 use Rattle.frame.specs.declared.Frame.{Frame}
 use Rattle.frame.proofs.RoundTrip.{bytes-length}
 use Rattle.frame.proofs.Theorems.{bytes-read}
-use Rattle.air.specs.Air.{stretchAt, stretchOf, placeRefusal, placed, airWith}
+use Rattle.air.specs.Air.{stretchAt, placeRefusal, placed, airWith}
+use Rattle.air.specs.Stretch.{stretchOf}
 use Rattle.air.proofs.Laws.{write-good, has-place, kept-air, on-the-air, stretch-good, stretch-length}
 
 stretch-byte : (air : List ℕ) (j i : ℕ) → i < 32 → getD (stretchAt air j) i 0 ≡ getD air (32 * j + i) 0

@@ -1,6 +1,6 @@
 -- The air, the record of all broadcasts: document 01, "Frames and the air". Assumes nothing.
 use Prim.Native.Nat.{ℕ, _*_}
-use mathlib.Core.List.{List, [], _++_}
+use mathlib.Core.List.{List, _++_}
 use mathlib.Core.Bool.{Bool, cond, not, _&&_}
 use lib.ListN.{length, take, drop}
 use lib.Dec.{ltb, eqb}
@@ -16,17 +16,9 @@ badAir air = not (eqb (length air) 65536)
 abbrev pub notOnAir : ℕ → ℕ → Bool
 notOnAir frames k = not (ltb k frames && ltb k 2048)
 
--- the number that asking for frame k gets, where `frames` were broadcast: 0, 13 or 25
-unfoldable pub stretchRefusal : List ℕ → ℕ → ℕ → ℕ
-stretchRefusal air frames k = cond (badAir air) 13 (cond (notOnAir frames k) 25 0)
-
 -- "frame k fills bytes 32×k to 32×k+31 of the air"
 abbrev pub stretchAt : List ℕ → ℕ → List ℕ
 stretchAt air k = take 32 (drop (32 * k) air)
-
--- "the air gives back that stretch of itself, or an empty stretch when 13 or 25 holds"
-unfoldable pub stretchOf : List ℕ → ℕ → ℕ → List ℕ
-stretchOf air frames k = cond (eqb (stretchRefusal air frames k) 0) (stretchAt air k) []
 
 -- the refusal of a frame to be written as frame k: 6 where k is 2,048 or more,
 -- which is past every air of 65,536 bytes, 7 to 11, 13, or 0

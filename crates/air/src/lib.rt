@@ -1,8 +1,9 @@
 // The air of document 01, "Frames and the air": 65,536 lent bytes, in which frame k fills bytes 32×k to 32×k+31.
-// The contracts cite specs/Air.antt.
+// The contracts cite specs/Air.antt and specs/Stretch.antt.
 use frame::Frame;
 ghost use mathlib.Core.Path.{_≡_};
-ghost use Rattle.air.specs.Air.{stretchRefusal, stretchOf, placeRefusal, airWith};
+ghost use Rattle.air.specs.Air.{placeRefusal, airWith};
+ghost use Rattle.air.specs.Stretch.{stretchRefusal, stretchOf};
 
 pub const LENGTH: usize = 65536;
 

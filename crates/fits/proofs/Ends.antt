@@ -22,7 +22,7 @@ use Rattle.fits.proofs.ItemLengths.{itemsMost, most-fifteen, log-length
 use Rattle.fits.proofs.LineCounts.{spentFrom}
 use Rattle.fits.proofs.ScriptCounts.{ordersOf, AllCounted, lines-counted, lines-unless-spent}
 use Rattle.fits.specs.Printed.{stepsOf}
-use Rattle.fits.proofs.Runs.{after-run, orders-sent, LedTo, reached-next, demand, reached-small, Bounded, right-bounded, right-spent, wrong-sent, wrong-bounded}
+use Rattle.fits.proofs.Runs.{after-run, orders-sent, LedTo, reached-next, demand, yard-facts, reached-small, Bounded, right-bounded, right-spent, wrong-sent, wrong-bounded}
 
 -- ---- the sums: p bytes for refused lines, t for the posts, orders whose items have o bytes at most, m of them, n beacons, k lines
 
@@ -62,9 +62,10 @@ module _ (s : List ℕ) (short : length s ≤ 48000) (at : ℕ) (inside : at ≤
       → length (postText lane (postAt (run w steps .yard) lane)) ≤ 38 + itemsMost (sent w steps)
   post-fits b lane l =
       let d = demand present sources dests air small smallSources smallDests z in
+      let f = yard-facts present sources dests air small smallSources smallDests z in
       omega (
         arith,
-        post-length lane (postAt (run w steps .yard) lane) l (omega (arith, b .clocks lane l)) (omega (arith, d .serials steps lane .few)),
+        post-length lane (postAt (run w steps .yard) lane) l (omega (arith, b .clocks lane l)) (omega (arith, f .serials steps lane .few)),
         log-length (logAt (run w steps) lane) (sent w steps) (rw (append-nil steps) at (d .logs steps [] lane)) (b .short),
       )
 

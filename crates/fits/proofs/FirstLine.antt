@@ -1,22 +1,17 @@
 -- Line 1 of a script that is not refused makes a yard that is not refused. Assumes nothing.
 use Prim.Native.Nat.{ℕ, zero, suc, _/_, _<_, _≤_}
-use mathlib.Core.Path.{_≡_, refl, _∙_}
+use mathlib.Core.Path.{_≡_, refl}
 use mathlib.Core.Bool.{Bool, true, false, not, _&&_, _||_}
 use mathlib.Core.List.{List}
 use mathlib.Core.Logic.{_⊎_, inl, inr, _≢_}
 use native.Mathlib.Omega.{arith}
 use lib.Count.{ones, ones-step}
-use lib.Dec.{ltb}
 use lib.ListN.{length}
 use borrow.Author.Tests.{lt-ltb, le-ltb, eq-eqb, ne-eqb}
-use Rattle.frame.specs.Lanes.{anyBelow}
-use Rattle.cells.specs.Sets.{hasLane}
-use Rattle.post.specs.Record.{freshPost}
-use Rattle.judge.specs.Judgement.{badRecord}
+use Rattle.cells.specs.Sets.{hasLane, roleAstray}
 use Rattle.lines.specs.Lines.{lineAt, numberOf, linesFrom, judgedLines, judged}
 use Rattle.yard.specs.Yards.{freshYard, yardRefusal, yardMade}
-use Rattle.laws.proofs.TestLaws.{same-or-not, below-or-not, true-or-false, not-both, or-made, each-none}
-use Rattle.laws.proofs.ValidFresh.{fresh-judged}
+use Rattle.laws.proofs.TestLaws.{same-or-not, below-or-not, true-or-false, not-both, each-none}
 use Rattle.written.specs.Written.{Roles}
 
 -- ---- the yard
@@ -40,11 +35,8 @@ module _ (posts sources dests : ℕ) (some : 0 < posts) (rs : Roles posts source
       go false p true q (inr e) = absurd (not-both (hasLane posts i) (rd i q) e)
 
   -- so 12 does not arise
-  fits-record : badRecord (freshPost 0 posts sources dests) ≡ false
-  fits-record = fresh-judged 0 posts sources dests
-      ∙ or-made (ltb 7 0) (anyBelow (λ (i : ℕ). (hasLane sources i || hasLane dests i) && not (hasLane posts i)) 8)
-      (le-ltb 7 0 (omega arith))
-      (each-none (λ (i : ℕ). (hasLane sources i || hasLane dests i) && not (hasLane posts i)) 8 (λ i l. misplaced i))
+  roles-placed : roleAstray posts sources dests ≡ false
+  roles-placed = each-none (λ (i : ℕ). (hasLane sources i || hasLane dests i) && not (hasLane posts i)) 8 (λ i l. misplaced i)
 
   -- nor does 3
   some-ones : ones posts ≢ 0
@@ -53,7 +45,7 @@ module _ (posts sources dests : ℕ) (some : 0 < posts) (rs : Roles posts source
   -- the yard is not refused
   pub yard-accepted : yardRefusal posts sources dests ≡ 0
   unfolding yardRefusal
-  yard-accepted = rw (ne-eqb (ones posts) 0 some-ones, fits-record)
+  yard-accepted = rw (ne-eqb (ones posts) 0 some-ones, roles-placed)
 
   -- so it is the fresh yard of its three sets
   pub yard-made : yardMade posts sources dests .yard ≡ freshYard posts sources dests

@@ -11,7 +11,8 @@ use Rattle.yard.specs.Yards.{yardRefusal}
 use Rattle.yard.specs.Worlds.{World}
 use Rattle.meaning.specs.Script.{worldAfter, scriptStart, stepLines, scriptWorld}
 use Rattle.agreement.specs.Demand3 as demand
-use Rattle.agreement.proofs.Theorem.{agreement}
+use Rattle.agreement.specs.YardFacts.{YardFacts}
+use Rattle.agreement.proofs.Theorem.{agreement, facts}
 use Rattle.fits.specs.Printed.{stepsOf, Printed}
 use Rattle.fits.proofs.LineLengths.{accepted}
 use Rattle.fits.proofs.FirstLine.{yard-accepted, yard-made, accepted-first}
@@ -26,6 +27,7 @@ module _ (s air : List ℕ) where
       × (yardRefusal posts sources dests ≡ 0)
       × (scriptWorld s air ≡ run (demand.freshWorld posts sources dests air) (stepsOf (stepLines s)))
       × demand.Demand3 posts sources dests (demand.freshWorld posts sources dests air)
+      × YardFacts (demand.freshWorld posts sources dests air)
 
   from-yard : (posts sources dests next : ℕ) → lineAt s 0 ≡ Yard posts sources dests next → FromYard
   unfolding FromYard scriptWorld
@@ -44,6 +46,7 @@ module _ (s air : List ℕ) where
         good,
         ran,
         agreement posts sources dests air (r .2) (r .3) (r .4) good,
+        facts posts sources dests air (r .2) (r .3) (r .4) good,
       )
 
   -- no other line can be the first

@@ -26,11 +26,12 @@ use Rattle.model.proofs.Functions.{sum-bound}
 use Rattle.model.proofs.Moves.{Good, good-clock}
 use Rattle.agreement.specs.YardRefusals.{orderYardRefusal, hearYardRefusal, beaconYardRefusal, stepRefusal}
 use Rattle.agreement.specs.Demand3.{freshWorld, Demand3}
+use Rattle.agreement.specs.YardFacts.{YardFacts}
 use Rattle.agreement.proofs.Views.{rolesOf, yardView}
 use Rattle.agreement.proofs.Sound.{Sound}
 use Rattle.agreement.proofs.FreshYards.{fresh-at}
 use Rattle.agreement.proofs.WrongAir.{never-runs, never-sends}
-use Rattle.agreement.proofs.Theorem.{run-last, ro, reached, good, agreement}
+use Rattle.agreement.proofs.Theorem.{run-last, ro, reached, good, agreement, facts}
 use Rattle.fits.proofs.ItemLengths.{Short}
 use Rattle.fits.proofs.LineCounts.{spentFrom}
 use Rattle.fits.proofs.ScriptCounts.{ordersOf}
@@ -110,9 +111,13 @@ module _ (present sources dests : ℕ) (air : List ℕ) (small : present < 256) 
   pub demand : Demand3 present sources dests w
   demand = agreement present sources dests air small smallSources smallDests z
 
+  -- and what else holds of it
+  pub yard-facts : YardFacts w
+  yard-facts = facts present sources dests air small smallSources smallDests z
+
   -- so each answer's number has two digits
   pub reached-small : (v : World) → LedTo w v → (x : Step) → answerNumber (answer v x) < 100
-  reached-small v r x = rw (← (r .1)) (omega (arith, demand .refusals (r .0) x, small-number (run w (r .0)) x))
+  reached-small v r x = rw (← (r .1)) (omega (arith, yard-facts .refusals (r .0) x, small-number (run w (r .0)) x))
 
   -- what bounds the posts' lines
   pub record Bounded (steps : List Step) : Type 0 where

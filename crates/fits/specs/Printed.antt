@@ -8,6 +8,7 @@ use Rattle.lines.specs.Lines.{lineAt, judged}
 use Rattle.yard.specs.Yards.{yardRefusal}
 use Rattle.roll.specs.Runs.{Step, run}
 use Rattle.agreement.specs.Demand3.{Demand3, freshWorld}
+use Rattle.agreement.specs.YardFacts.{YardFacts}
 use Rattle.meaning.specs.Script.{stepOf, stepLines, scriptWorld}
 
 -- the steps of some lines
@@ -16,7 +17,7 @@ stepsOf [] = []
 stepsOf (l ∷ ls) = stepOf l ++ stepsOf ls
 
 -- the yard of an accepted script's first line is not refused, the script runs its steps on that yard, made fresh, and
--- demand 3 holds of it
+-- demand 3 holds of it, and what else holds of every yard
 abbrev pub Printed : Type 0
 Printed = (s air : List ℕ) → judged s .number ≡ 0 →
     (posts : ℕ) × (sources : ℕ) × (dests : ℕ) × (next : ℕ)
@@ -24,3 +25,4 @@ Printed = (s air : List ℕ) → judged s .number ≡ 0 →
     × (yardRefusal posts sources dests ≡ 0)
     × (scriptWorld s air ≡ run (freshWorld posts sources dests air) (stepsOf (stepLines s)))
     × Demand3 posts sources dests (freshWorld posts sources dests air)
+    × YardFacts (freshWorld posts sources dests air)

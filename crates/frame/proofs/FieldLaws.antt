@@ -8,8 +8,8 @@ use borrow.Author.Tests.{eq-eqb, ne-eqb}
 use lib.Dec.{T, ltb, lit<}
 use lib.ListN.{length, set}
 use Rattle.frame.specs.Layout.{entryOf, frameOf}
-use Rattle.frame.specs.Refusals.{readRefusal, writeRefusal}
-use Rattle.frame.specs.ReadWrite.{readOf, written}
+use Rattle.frame.specs.Refusals.{readRefusal}
+use Rattle.frame.specs.ReadWrite.{writeRefusal, readOf, written}
 use Rattle.frame.specs.Fields.{fieldsOf, frameFrom, badCount, fieldsReadRefusal, fieldsRead, fieldsWriteRefusal, fieldsWritten}
 use Rattle.frame.specs.declared.Frame.{Frame}
 use Rattle.frame.proofs.RoundTrip.{tabulate, tabulated}

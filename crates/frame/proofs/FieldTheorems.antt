@@ -9,9 +9,10 @@ use borrow.Author.Tests.{lt-ltb, eqb-true, not-false}
 use lib.Dec.{ltb, lit<}
 use lib.ListN.{length, getD}
 use Rattle.frame.specs.Lanes.{lanes}
-use Rattle.frame.specs.Layout.{Fits, AreBytes, noEntry, frameOf}
-use Rattle.frame.specs.Refusals.{frameRefusal, readRefusal, writeRefusal}
-use Rattle.frame.specs.ReadWrite.{readOf, written}
+use Rattle.frame.specs.Layout.{noEntry, frameOf}
+use Rattle.frame.specs.Types.{Fits, AreBytes}
+use Rattle.frame.specs.Refusals.{frameRefusal, readRefusal}
+use Rattle.frame.specs.ReadWrite.{writeRefusal, readOf, written}
 use Rattle.frame.specs.Fields.{ByteFields, fieldsOf, fieldAt, entryFrom, entriesFrom, frameFrom, badCount, fieldsReadRefusal, fieldsRead, fieldsWriteRefusal, fieldsWritten}
 use Rattle.frame.specs.declared.Entry.{Entry}
 use Rattle.frame.specs.declared.Frame.{Frame}

@@ -11,9 +11,10 @@ use lib.Dec.{T, ltb, eqb, lit<}
 use mir.Syntax.{w8, w64}
 use mir.Val.{Fits}
 use Rattle.frame.specs.Lanes.{anyBelow}
-use Rattle.frame.specs.Layout.{byteAt, pairAt, entryAt, frameOf, startOf, bytesOf}
-use Rattle.frame.specs.Refusals.{badLength, badKind, badBeacon, badOrder, badSender, badEntry, badEntries, startRefusal, frameRefusal, readRefusal, writeRefusal}
-use Rattle.frame.specs.ReadWrite.{refusedRead, readOf, written}
+use Rattle.frame.specs.Layout.{byteAt, pairAt, entryAt, frameOf, bytesOf}
+use Rattle.frame.specs.Parts.{startOf, startRefusal}
+use Rattle.frame.specs.Refusals.{badLength, badKind, badBeacon, badOrder, badSender, badEntry, badEntries, frameRefusal, readRefusal}
+use Rattle.frame.specs.ReadWrite.{writeRefusal, refusedRead, readOf, written}
 use Rattle.frame.specs.declared.Entry.{Entry}
 use Rattle.frame.specs.declared.Frame.{Frame}
 use Rattle.frame.specs.declared.FrameRead.{FrameRead}

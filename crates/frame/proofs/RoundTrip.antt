@@ -4,7 +4,8 @@ use mathlib.Core.List.{List, [], _∷_}
 use Prim.Native.Nat.{ℕ, zero, suc, _+_, _*_, _/_, _%_, _<_}
 use native.Mathlib.Omega.{arith}
 use lib.ListN.{length, getD}
-use Rattle.frame.specs.Layout.{Fits, AreBytes, noEntry, entriesOf, frameOf, bytesOf}
+use Rattle.frame.specs.Layout.{noEntry, entriesOf, frameOf, bytesOf}
+use Rattle.frame.specs.Types.{Fits, AreBytes}
 use Rattle.frame.specs.declared.Frame.{Frame}
 
 -- a list is the list of its elements

@@ -7,9 +7,10 @@ use Prim.Native.Nat.{ℕ, _+_}
 use lib.Dec.{eqb}
 use lib.ListN.{length}
 use Rattle.frame.specs.Lanes.{anyBelow}
-use Rattle.frame.specs.Layout.{Fits, AreBytes, byteAt, frameOf, bytesOf}
-use Rattle.frame.specs.Refusals.{badBeacon, frameRefusal, readRefusal, writeRefusal}
-use Rattle.frame.specs.ReadWrite.{readOf, written}
+use Rattle.frame.specs.Layout.{byteAt, frameOf, bytesOf}
+use Rattle.frame.specs.Types.{Fits, AreBytes}
+use Rattle.frame.specs.Refusals.{badBeacon, frameRefusal, readRefusal}
+use Rattle.frame.specs.ReadWrite.{writeRefusal, readOf, written}
 use Rattle.frame.specs.declared.Frame.{Frame}
 use Rattle.frame.specs.declared.FrameRead.{FrameRead}
 use Rattle.frame.proofs.Beacon.{pair-nonzero, any-of-six}

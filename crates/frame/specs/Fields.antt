@@ -6,8 +6,8 @@ use lib.ListN.{length, getD}
 use lib.Dec.{ltb, eqb}
 use Rattle.frame.specs.Lanes.{lanes}
 use Rattle.frame.specs.Layout.{entryOf, joined}
-use Rattle.frame.specs.Refusals.{readRefusal, writeRefusal}
-use Rattle.frame.specs.ReadWrite.{readOf, written}
+use Rattle.frame.specs.Refusals.{readRefusal}
+use Rattle.frame.specs.ReadWrite.{writeRefusal, readOf, written}
 use Rattle.frame.specs.declared.Entry.{Entry}
 use Rattle.frame.specs.declared.Frame.{Frame}
 

@@ -1,9 +1,8 @@
 -- The layout of a frame, 32 bytes, big-endian: document 01, "Frames and the air". Assumes nothing.
 -- `frameOf` says which field each byte belongs to, `bytesOf` which byte each field gives.
-use Prim.Native.Nat.{ℕ, _+_, _*_, _/_, _%_, _<_}
-use mathlib.Core.Path.{_≡_}
+use Prim.Native.Nat.{ℕ, _+_, _*_, _/_, _%_}
 use mathlib.Core.List.{List, [], _∷_, _++_, map}
-use lib.ListN.{length, getD}
+use lib.ListN.{getD, replicate}
 use Rattle.frame.specs.Lanes.{lanes}
 use Rattle.frame.specs.declared.Entry.{Entry}
 use Rattle.frame.specs.declared.Frame.{Frame}
@@ -36,21 +35,21 @@ frameOf bytes = record {
   entries = entriesOf bytes;
 }
 
--- the fields before the entries, alone
-abbrev pub startOf : ℕ → ℕ → ℕ → ℕ → ℕ → ℕ → Frame
-startOf kind sender lane serial stamp word = record {
-  kind = kind;
-  sender = sender;
-  lane = lane;
-  serial = record { 0 = serial };
-  stamp = record { 0 = stamp };
-  word = word;
-  entries = [];
-}
-
 -- "all zero is none"
 abbrev pub noEntry : Entry
 noEntry = record { serial = record { 0 = 0 }; stamp = record { 0 = 0 } }
+
+-- what stands where there is no frame: 0 in every field
+abbrev pub noFrame : Frame
+noFrame = record {
+  kind = 0;
+  sender = 0;
+  lane = 0;
+  serial = record { 0 = 0 };
+  stamp = record { 0 = 0 };
+  word = 0;
+  entries = replicate 8 noEntry;
+}
 
 -- a frame's entry of a lane
 abbrev pub entryOf : Frame → ℕ → Entry
@@ -83,14 +82,3 @@ fieldBytes f =
 -- the 32 bytes that a frame lays out
 unfoldable pub bytesOf : Frame → List ℕ
 bytesOf f = joined (fieldBytes f)
-
--- what every value of the type `Frame` has: eight entries, and stamps and word of 16 bits
-pub record Fits (f : Frame) : Type 0 where
-  pub stamp : f .stamp .0 < 65536
-  pub word : f .word < 65536
-  pub count : length (f .entries) ≡ 8
-  pub stamps : (lane : ℕ) → entryOf f lane .stamp .0 < 65536
-
--- what every value of the type `&[u8]` has
-abbrev pub AreBytes : List ℕ → Type 0
-AreBytes l = (i : ℕ) → byteAt l i < 256

@@ -2,24 +2,11 @@
 use Prim.Native.Nat.{ℕ}
 use mathlib.Core.List.{List}
 use mathlib.Core.Bool.{cond}
-use lib.ListN.{replicate}
 use lib.Dec.{eqb}
-use Rattle.frame.specs.Layout.{frameOf, bytesOf, noEntry}
-use Rattle.frame.specs.Refusals.{readRefusal, writeRefusal}
+use Rattle.frame.specs.Layout.{frameOf, bytesOf, noFrame}
+use Rattle.frame.specs.Refusals.{badLength, frameRefusal, readRefusal}
 use Rattle.frame.specs.declared.Frame.{Frame}
 use Rattle.frame.specs.declared.FrameRead.{FrameRead}
-
--- what stands beside a refusal: a frame with 0 in every field
-abbrev pub noFrame : Frame
-noFrame = record {
-  kind = 0;
-  sender = 0;
-  lane = 0;
-  serial = record { 0 = 0 };
-  stamp = record { 0 = 0 };
-  word = 0;
-  entries = replicate 8 noEntry;
-}
 
 -- "A refusal yields only its number"
 abbrev pub refusedRead : ℕ → FrameRead
@@ -31,6 +18,10 @@ readOf bytes = record {
   refusal = readRefusal bytes;
   frame = cond (eqb (readRefusal bytes) 0) (frameOf bytes) noFrame;
 }
+
+-- the refusal of a frame that is to be written into a buffer, or 0: "by 6 to 11 just as the reader does"
+unfoldable pub writeRefusal : List ℕ → Frame → ℕ
+writeRefusal buffer f = cond (badLength buffer) 6 (frameRefusal f)
 
 -- the buffer after writing: the frame's bytes, or what it held where the writer refuses
 unfoldable pub written : List ℕ → Frame → List ℕ

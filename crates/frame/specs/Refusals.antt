@@ -38,15 +38,6 @@ badEntry e = ltb 16 (e .serial .0) || (eqb (e .stamp .0) 0 && not (eqb (e .seria
 unfoldable pub badEntries : Frame → Bool
 badEntries f = anyBelow (λ (lane : ℕ). badEntry (entryOf f lane)) 8
 
--- the lowest of 7 to 10, those of the fields before the entries, that a frame meets, or 0
-unfoldable pub startRefusal : Frame → ℕ
-startRefusal f =
-    cond (badKind f) 7
-    (cond (badBeacon f) 8
-    (cond (badOrder f) 9
-    (cond (badSender f) 10
-    0)))
-
 -- the lowest of 7 to 11 that a frame meets, or 0
 unfoldable pub frameRefusal : Frame → ℕ
 frameRefusal f =
@@ -60,7 +51,3 @@ frameRefusal f =
 -- the refusal of bytes that are to be read as a frame, or 0
 unfoldable pub readRefusal : List ℕ → ℕ
 readRefusal bytes = cond (badLength bytes) 6 (frameRefusal (frameOf bytes))
-
--- the refusal of a frame that is to be written into a buffer, or 0: "by 6 to 11 just as the reader does"
-unfoldable pub writeRefusal : List ℕ → Frame → ℕ
-writeRefusal buffer f = cond (badLength buffer) 6 (frameRefusal f)

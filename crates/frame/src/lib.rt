@@ -5,9 +5,9 @@ mod layout;
 mod refusals;
 
 ghost use mathlib.Core.Path.{_≡_};
-ghost use Rattle.frame.specs.Layout.{bytesOf};
-ghost use Rattle.frame.specs.Refusals.{frameRefusal, readRefusal, writeRefusal};
-ghost use Rattle.frame.specs.ReadWrite.{noFrame, refusedRead, readOf, written};
+ghost use Rattle.frame.specs.Layout.{bytesOf, noFrame};
+ghost use Rattle.frame.specs.Refusals.{frameRefusal, readRefusal};
+ghost use Rattle.frame.specs.ReadWrite.{writeRefusal, refusedRead, readOf, written};
 ghost use Rattle.frame.specs.Fields.{fieldsReadRefusal, fieldsRead, fieldsWriteRefusal, fieldsWritten};
 
 // A count of one lane's own orders (a per-source sequence number), 1 to 16; entries also have 0.

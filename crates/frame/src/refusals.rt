@@ -6,8 +6,9 @@ use crate::Stamp;
 use crate::layout;
 ghost use mathlib.Core.Path.{_≡_};
 ghost use lib.ListN.{length};
-ghost use Rattle.frame.specs.Layout.{startOf, frameOf};
-ghost use Rattle.frame.specs.Refusals.{badEntry, badEntries, startRefusal};
+ghost use Rattle.frame.specs.Layout.{frameOf};
+ghost use Rattle.frame.specs.Parts.{startOf, startRefusal};
+ghost use Rattle.frame.specs.Refusals.{badEntry, badEntries};
 
 // The lowest of 7 to 10 that the fields before the entries meet, or 0.
 pub(crate) fn of_start(

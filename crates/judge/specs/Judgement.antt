@@ -5,8 +5,9 @@ use mathlib.Core.Bool.{Bool, cond, not, _&&_, _||_}
 use lib.Dec.{ltb, leb, eqb}
 use lib.ListN.{getD}
 use Rattle.frame.specs.Lanes.{anyBelow}
+use Rattle.cells.specs.Sets.{roleAstray}
 use Rattle.post.specs.declared.Post.{Post}
-use Rattle.post.specs.Record.{isPost, isSource, isDest, lastOf}
+use Rattle.post.specs.Record.{lastOf}
 use Rattle.deliver.specs.Delivery.{isTaken, stampAt}
 
 -- the word of the order at a place, and the place that stands k-th in the log
@@ -22,7 +23,7 @@ badNumber p = ltb 7 (p .lane) || ltb 16 (p .serial .0) || ltb 128 (p .logged) ||
 
 -- "a role at a lane without a post"
 abbrev pub badRole : Post → Bool
-badRole p = anyBelow (λ (i : ℕ). (isSource p i || isDest p i) && not (isPost p i)) 8
+badRole p = roleAstray (p .posts) (p .sources) (p .dests)
 
 -- "an own serial other than the last taken from its own lane"
 abbrev pub badOwnSerial : Post → Bool

@@ -7,7 +7,8 @@ use lib.Dec.{eqb}
 use borrow.Author.Tests.{ne-eqb}
 use Rattle.frame.specs.declared.FrameRead.{FrameRead}
 use Rattle.frame.specs.ReadWrite.{readOf}
-use Rattle.air.specs.Air.{stretchOf, airWith}
+use Rattle.air.specs.Air.{airWith}
+use Rattle.air.specs.Stretch.{stretchOf}
 use Rattle.post.specs.declared.Post.{Post}
 use Rattle.steps.specs.Refusals.{hearRefusal}
 use Rattle.steps.specs.Steps.{hearStep}

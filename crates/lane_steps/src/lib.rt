@@ -11,7 +11,7 @@ ghost use mathlib.Core.List.{List};
 ghost use Prim.Native.Nat.{ℕ};
 ghost use lib.Dec.{eqb};
 ghost use Rattle.air.specs.Air.{airWith};
-ghost use Rattle.post.specs.Record.{postOf};
+ghost use Rattle.post.specs.Heads.{postOf};
 ghost use Rattle.deliver.specs.Known.{knownAfter};
 ghost use Rattle.yard.specs.Singles.{framesAfter, postBeacons, postBeaconsAir};
 ghost use Rattle.lane_steps.specs.InPlace.{Left, deliveredFrom, orderedIn, frameHeardIn};

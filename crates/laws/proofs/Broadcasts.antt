@@ -4,7 +4,7 @@ use mathlib.Core.Bool.{true}
 use Prim.Native.Nat.{ℕ, _+_, _<_}
 use native.Mathlib.Omega.{arith}
 use Rattle.frame.specs.declared.Frame.{Frame}
-use Rattle.frame.specs.Layout.{Fits}
+use Rattle.frame.specs.Types.{Fits}
 use Rattle.frame.specs.Refusals.{frameRefusal}
 use Rattle.post.specs.declared.Post.{Post}
 use Rattle.post.specs.Record.{lastOf}
@@ -13,16 +13,12 @@ use Rattle.post.specs.Taking.{kept, ticked, ownTaken, taken}
 use Rattle.steps.specs.Refusals.{isNext, orderRefusal, hearRefusal, beaconRefusal}
 use Rattle.steps.specs.Steps.{orderSent, orderStep, hearTaken, hearStep, beaconStep}
 use Rattle.steps.proofs.Ways.{can-rise}
+pub use Rattle.laws.specs.Broadcasts.{Sendable}
 use Rattle.laws.proofs.NewestLaws.{beacon-accepted, order-accepted, beacon-fits, order-fits}
 use Rattle.laws.proofs.Valid.{Shaped, Valid}
 use Rattle.laws.proofs.ValidSteps.{ordered-shaped, ordered-valid, taken-shaped, taken-valid}
 use Rattle.laws.proofs.Accepted.{accepted}
 use Rattle.laws.proofs.Hearable.{next-is}
-
--- a frame of its type that 7 to 11 do not turn down
-pub record Sendable (f : Frame) : Type 0 where
-  pub good : frameRefusal f ≡ 0
-  pub fits : Fits f
 
 -- the frame of an order that is not refused is that of the post that took it
 pub order-frame : (p : Post) (word : ℕ) → orderRefusal p ≡ 0

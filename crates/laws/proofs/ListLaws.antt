@@ -7,6 +7,7 @@ use native.Mathlib.Omega.{arith}
 use lib.ListN.{length, getD, set, length-append}
 use lib.Seq.{sets, getD-set-other}
 pub use Rattle.laws.specs.Lists.{Mem, Begins}
+pub use Rattle.laws.specs.LogAfter.{NoRepeat, RisingBy}
 
 module _ {A : Type 0} where
   pub mem-left : (x : A) (s t : List A) → Mem x s → Mem x (s ++ t)
@@ -33,11 +34,6 @@ module _ {A : Type 0} where
 
   pub begins-on : (s l m : List A) → Begins s l → Begins l m → Begins s m
   begins-on s l m b c = (b .0 ++ c .0, c .1 ∙ rw (b .1) (append-assoc s (b .0) (c .0)))
-
-  -- nothing stands in it twice
-  abbrev pub NoRepeat : List A → Type 0
-  NoRepeat [] = Unit {0}
-  NoRepeat (x ∷ l) = (Mem x l → ⊥) × NoRepeat l
 
   pub no-repeat-append : (s t : List A) → NoRepeat s → NoRepeat t → ((x : A) → Mem x s → Mem x t → ⊥) → NoRepeat (s ++ t)
   no-repeat-append [] t a b h = b
@@ -108,14 +104,9 @@ map-mem f y [] m = absurd m
 map-mem f y (x ∷ l) (inl e) = (x, inl refl, e)
 map-mem f y (x ∷ l) (inr m) = let r = map-mem f y l m in (r .0, inr (r .1), r .2)
 
--- keys rise strictly along a list
-abbrev pub RisingBy : (ℕ → ℕ) → List ℕ → Type 0
-RisingBy key [] = Unit {0}
-RisingBy key (x ∷ l) = ((y : ℕ) → Mem y l → key x < key y) × RisingBy key l
-
 -- the numbers rise strictly themselves
-abbrev pub Rising : List ℕ → Type 0
-Rising l = RisingBy (λ (x : ℕ). x) l
+abbrev pub RisingNumbers : List ℕ → Type 0
+RisingNumbers l = RisingBy (λ (x : ℕ). x) l
 
 -- where keys rise strictly, nothing stands twice
 pub rising-once : (key : ℕ → ℕ) (l : List ℕ) → RisingBy key l → NoRepeat l
@@ -123,7 +114,7 @@ rising-once key [] r = tt
 rising-once key (x ∷ l) r = (λ m. omega (arith, r .0 x m), rising-once key l (r .1))
 
 -- rising numbers that are the keys of what they are changed to
-pub rising-map : (key f : ℕ → ℕ) (l : List ℕ) → Rising l → ((x : ℕ) → Mem x l → x ≡ key (f x)) → RisingBy key (map f l)
+pub rising-map : (key f : ℕ → ℕ) (l : List ℕ) → RisingNumbers l → ((x : ℕ) → Mem x l → x ≡ key (f x)) → RisingBy key (map f l)
 rising-map key f [] r h = tt
 rising-map key f (x ∷ l) r h = (λ y m. above y (map-mem f y l m), rising-map key f l (r .1) (λ z m. h z (inr m)))
   where

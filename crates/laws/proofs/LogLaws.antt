@@ -13,17 +13,10 @@ use Rattle.cells.specs.Tables.{stampUnder, keyOf}
 use Rattle.post.specs.declared.Post.{Post}
 use Rattle.post.specs.Record.{isSource, isDest, lastOf}
 use Rattle.deliver.specs.Delivery.{allBelow, isTaken, isLogged, stampAt, agrees, isDue, dueBelow, sort, duePlaces, dueLog, delivered}
+pub use Rattle.laws.specs.LogAfter.{logOf, keyAt}
 use Rattle.laws.proofs.TestLaws.{same-or-not, not-both, and-parts, and-made, or-second, some-which, which-some, all-each, each-all}
-use Rattle.laws.proofs.ListLaws.{Mem, NoRepeat, RisingBy, Rising, mem-at, mem-which, mem-map, map-mem, rising-once, rising-map, sets-past}
+use Rattle.laws.proofs.ListLaws.{Mem, NoRepeat, RisingBy, RisingNumbers, mem-at, mem-which, mem-map, map-mem, rising-once, rising-map, sets-past}
 use Rattle.laws.proofs.SortLaws.{sort-mem, mem-sort, sort-rising}
-
--- the log's places in turn
-abbrev pub logOf : Post → List ℕ
-logOf p = take (p .logged) (p .log)
-
--- the number that an order is delivered by
-abbrev pub keyAt : Post → ℕ → ℕ
-keyAt p place = keyOf (stampAt p place) place
 
 -- ---- the log by index
 
@@ -134,7 +127,7 @@ due-keys-once p (suc n) h = go (isDue p n) (due-keys-once p n (omega arith))
     go false ih = ih
 
 -- sorted, they rise strictly
-pub due-keys-rise : (p : Post) → Rising (sort (dueBelow p 128))
+pub due-keys-rise : (p : Post) → RisingNumbers (sort (dueBelow p 128))
 due-keys-rise p = sort-rising (dueBelow p 128) (due-keys-once p 128 (omega arith))
 
 -- ---- the places of the due orders

@@ -8,21 +8,16 @@ use native.Mathlib.Omega.{arith}
 use lib.Dec.{ltb, leb, eqb}
 use lib.ListN.{length, getD, List·getD-eq-default}
 use borrow.Author.Tests.{ltb-true, leb-true, leb-false, le-ltb, ne-eqb, lt-ltb, eqb-true}
-use Rattle.frame.specs.Layout.{noEntry, entryOf, Fits}
+use Rattle.frame.specs.Layout.{noEntry, entryOf}
+use Rattle.frame.specs.Types.{Fits}
 use Rattle.frame.specs.Refusals.{badEntry, badEntries, frameRefusal}
 use Rattle.frame.specs.declared.Entry.{Entry}
 use Rattle.frame.specs.declared.Frame.{Frame}
 use Rattle.cells.specs.Tables.{entryPlace, stampUnder}
 use Rattle.post.specs.declared.Post.{Post}
 use Rattle.post.specs.Newest.{newer, newestBelow, newest, newestEntries, orderFrame, beaconFrame}
+use Rattle.laws.specs.Broadcasts.{IsNewest}
 use Rattle.laws.proofs.TestLaws.{same-or-not, below-or-not, and-parts, and-second, or-made, and-fails, each-none}
-
--- e is the newest entry of a lane, of the serials below n
-pub record IsNewest (table : List ℕ) (lane n : ℕ) (e : Entry) : Type 0 where
-  pub highest : (serial : ℕ) → serial < n → stampUnder table lane serial ≤ e .stamp .0
-  pub last : (serial : ℕ) → serial < n → 0 < stampUnder table lane serial → stampUnder table lane serial ≡ e .stamp .0 → serial ≤ e .serial .0
-  pub found : 0 < e .stamp .0 → (e .serial .0 < n) × (stampUnder table lane (e .serial .0) ≡ e .stamp .0)
-  pub none : e .stamp .0 ≡ 0 → e ≡ noEntry
 
 -- one serial more, and its stamp is the highest
 newer-wins : (table : List ℕ) (lane n : ℕ) (e : Entry) → 0 < stampUnder table lane n → e .stamp .0 ≤ stampUnder table lane n

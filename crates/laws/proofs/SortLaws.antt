@@ -10,7 +10,7 @@ use lib.Dec.{eqb}
 use borrow.Author.Tests.{eq-eqb, ne-eqb}
 use Rattle.deliver.specs.Delivery.{insertKey, sort}
 use Rattle.laws.proofs.TestLaws.{same-or-not}
-use Rattle.laws.proofs.ListLaws.{Mem, NoRepeat, Rising}
+use Rattle.laws.proofs.ListLaws.{Mem, NoRepeat, RisingNumbers}
 
 -- m is below none of a list
 abbrev pub Low : ℕ → List ℕ → Type 0
@@ -128,7 +128,7 @@ low-mem m z (y ∷ l) h (inl e) = omega (arith, h .0)
 low-mem m z (y ∷ l) h (inr k) = low-mem m z l (h .1) k
 
 -- a sorted list without repetition rises strictly
-sorted-rising : (l : List ℕ) → Sorted l → NoRepeat l → Rising l
+sorted-rising : (l : List ℕ) → Sorted l → NoRepeat l → RisingNumbers l
 sorted-rising [] s n = tt
 sorted-rising (x ∷ l) s n =
     (λ y m. omega (arith, low-mem x y l (s .0) m, differ y m), sorted-rising l (s .1) (n .1))
@@ -137,5 +137,5 @@ sorted-rising (x ∷ l) s n =
     differ y m e = n .0 (rw (← e) at m)
 
 -- where nothing stood twice the sorted list rises strictly
-pub sort-rising : (l : List ℕ) → NoRepeat l → Rising (sort l)
+pub sort-rising : (l : List ℕ) → NoRepeat l → RisingNumbers (sort l)
 sort-rising l n = sorted-rising (sort l) (sort-sorted l) (sort-once l n)

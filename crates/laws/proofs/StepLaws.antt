@@ -2,19 +2,19 @@
 use mathlib.Core.Path.{_≡_, ap, _∙_}
 use mathlib.Core.List.{_++_}
 use mathlib.Core.Logic.{_⊎_, inl, inr, _≢_}
-use mathlib.Core.Bool.{true, false}
+use mathlib.Core.Bool.{false}
 use Prim.Native.Nat.{ℕ, _<_}
 use Rattle.frame.specs.declared.Frame.{Frame}
-use Rattle.frame.specs.Layout.{Fits}
+use Rattle.frame.specs.Types.{Fits}
 use Rattle.frame.specs.Refusals.{frameRefusal}
 use Rattle.post.specs.declared.Post.{Post}
 use Rattle.post.specs.Taking.{ownTaken}
-use Rattle.deliver.specs.Delivery.{isTaken, delivered}
+use Rattle.deliver.specs.Delivery.{delivered}
 use Rattle.steps.specs.Refusals.{orderRefusal, hearRefusal}
 use Rattle.steps.specs.Steps.{orderStep, hearStep}
 use Rattle.judge.specs.Judgement.{badRecord}
+use Rattle.laws.specs.LogAfter.{LogAfter}
 use Rattle.laws.proofs.TestLaws.{same-or-not}
-use Rattle.laws.proofs.ListLaws.{Mem, NoRepeat, Begins}
 use Rattle.laws.proofs.LogLaws.{logOf}
 use Rattle.laws.proofs.Valid.{Shaped, Valid, judged-valid, valid-judged}
 use Rattle.laws.proofs.ValidLog.{joining, log-once, log-taken, delivered-log, delivered-shaped, delivered-valid}
@@ -69,13 +69,6 @@ hear-judged p f a t s e =
     (hear-shaped p f a t s v, valid-judged (hearStep p f .post) (hear-valid p f a t s v))
 
 -- ---- the log
-
--- of p before a step, q just before delivery and r after the step
-pub record LogAfter (p q r : Post) : Type 0 where
-  pub log : logOf r ≡ logOf p ++ joining q
-  pub begins : Begins (logOf p) (logOf r)
-  pub taken : (place : ℕ) → Mem place (logOf r) → (place < 128) × (isTaken r place ≡ true)
-  pub once : NoRepeat (logOf r)
 
 -- delivery of a valid record that has the old log yet
 log-after : (p q r : Post) → logOf q ≡ logOf p → r ≡ delivered q .post → Shaped q → Valid q → Shaped r → Valid r → LogAfter p q r

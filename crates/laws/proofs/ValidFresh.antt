@@ -6,8 +6,7 @@ use native.Mathlib.Omega.{arith}
 use lib.Dec.{ltb, leb, eqb}
 use lib.ListN.{getD, replicate, length-replicate}
 use borrow.Author.Tests.{le-ltb, eq-eqb}
-use Rattle.frame.specs.Lanes.{anyBelow}
-use Rattle.cells.specs.Sets.{hasLane}
+use Rattle.cells.specs.Sets.{roleAstray}
 use Rattle.post.specs.declared.Post.{Post}
 use Rattle.post.specs.Record.{lastOf, freshPost}
 use Rattle.deliver.specs.Delivery.{isTaken, stampAt}
@@ -88,8 +87,7 @@ module _ (lane posts sources dests : ℕ) where
   }
 
   -- a fresh post is turned down for a lane over 7, or a role at a lane without a post, and for nothing else
-  pub fresh-judged : badRecord (freshPost lane posts sources dests)
-      ≡ (ltb 7 lane || anyBelow (λ (i : ℕ). (hasLane sources i || hasLane dests i) && not (hasLane posts i)) 8)
+  pub fresh-judged : badRecord (freshPost lane posts sources dests) ≡ (ltb 7 lane || roleAstray posts sources dests)
   fresh-judged = blank-judged (freshPost lane posts sources dests) fresh-blank
 
   -- and it is a record of its type
@@ -110,10 +108,10 @@ module _ (lane posts sources dests : ℕ) where
   }
 
   -- with a lane up to 7 and roles at posts it is valid
-  pub fresh-valid : lane < 8 → anyBelow (λ (i : ℕ). (hasLane sources i || hasLane dests i) && not (hasLane posts i)) 8 ≡ false
+  pub fresh-valid : lane < 8 → roleAstray posts sources dests ≡ false
       → Valid (freshPost lane posts sources dests)
   fresh-valid h e =
       judged-valid (freshPost lane posts sources dests)
       (fresh-judged
-      ∙ or-made (ltb 7 lane) (anyBelow (λ (i : ℕ). (hasLane sources i || hasLane dests i) && not (hasLane posts i)) 8)
+      ∙ or-made (ltb 7 lane) (roleAstray posts sources dests)
       (le-ltb 7 lane (omega arith)) e)

@@ -2,7 +2,7 @@
 use mathlib.Core.Path.{_≡_, refl, sym, ap, _∙_}
 use mathlib.Core.List.{List, [], _∷_, _++_, append-nil}
 use mathlib.Core.Logic.{_⊎_, inl, inr, _≢_}
-use mathlib.Core.Bool.{true, false, cond}
+use mathlib.Core.Bool.{true, false}
 use Prim.Native.Nat.{ℕ, zero, suc, _+_, _<_, _≤_}
 use native.Mathlib.Omega.{arith}
 use lib.ListN.{length, getD, take, length-append}
@@ -11,6 +11,7 @@ use Rattle.post.specs.declared.Post.{Post}
 use Rattle.post.specs.Record.{isDest, withLog}
 use Rattle.deliver.specs.Delivery.{isTaken, isLogged, duePlaces, dueLog, delivered}
 use Rattle.judge.specs.Judgement.{loggedAt}
+pub use Rattle.laws.specs.LogAfter.{joining}
 use Rattle.laws.proofs.TestLaws.{same-or-not, true-or-false, not-both}
 use Rattle.laws.proofs.ListLaws.{Mem, NoRepeat, mem-append, mem-at, mem-which, no-repeat-append, no-repeat-at, at-no-repeat, no-longer}
 use Rattle.laws.proofs.LogLaws.{logOf, mem-logged, is-due, places-due, places-once, Joined, delivered-joins, delivered-stays}
@@ -141,10 +142,6 @@ log-valid p log logged b l once all rest v = record {
     long = length-take-le logged log (omega arith)
 
 -- ---- delivery
-
--- the orders that join the log: those due at a destination, none elsewhere
-abbrev pub joining : Post → List ℕ
-joining p = cond (isDest p (p .lane)) (duePlaces p) []
 
 -- delivery changes the log alone
 pub delivered-log-only : (p : Post) → delivered p .post ≡ withLog p (delivered p .post .log) (delivered p .post .logged)

@@ -7,7 +7,7 @@ use Prim.Native.Nat.{ℕ, _+_, _<_, max}
 use native.Mathlib.Omega.{arith}
 use borrow.Author.Tests.{ne-eqb}
 use Rattle.frame.specs.declared.Frame.{Frame}
-use Rattle.frame.specs.Layout.{Fits}
+use Rattle.frame.specs.Types.{Fits}
 use Rattle.frame.specs.Refusals.{frameRefusal}
 use Rattle.cells.specs.Tables.{withStamp}
 use Rattle.post.specs.declared.Post.{Post}
@@ -18,6 +18,7 @@ use Rattle.deliver.specs.Delivery.{delivered}
 use Rattle.steps.specs.Refusals.{isNext, orderRefusal, hearRefusal}
 use Rattle.steps.specs.Steps.{orderSent, orderStep, hearTaken, hearOther, hearStep}
 use Rattle.steps.proofs.Ways.{can-rise}
+unfoldable pub use Rattle.laws.specs.LogAfter.{heardPost}
 use Rattle.laws.proofs.TestLaws.{true-or-false}
 use Rattle.laws.proofs.TableLaws.{stamp-length, stamp-below, all-raised-length, all-raised-under}
 use Rattle.laws.proofs.LogLaws.{logOf}
@@ -119,10 +120,6 @@ taken-valid p f a z n s v = go (isSource p (p .lane))
         (withStamp (q .table) (p .lane) (p .serial .0) (max (p .clock .0) (f .stamp .0) + 1))
         valid
     go false = valid
-
--- the post just before delivery
-unfoldable pub heardPost : Post → Frame → Post
-heardPost p f = cond (isNext f (lastOf p (f .lane))) (taken p f) (raisedPost p f)
 
 module _ (p : Post) (f : Frame) where
   -- where the order is the next of its lane

@@ -1,1 +1,4 @@
 pub mod Lists
+pub mod Records
+pub mod LogAfter
+pub mod Broadcasts

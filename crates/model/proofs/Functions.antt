@@ -7,7 +7,7 @@ use native.Mathlib.Omega.{arith}
 use lib.Dec.{leb, eqb}
 use borrow.Author.Tests.{eq-eqb, ne-eqb, leb-true, leb-false}
 use Rattle.laws.proofs.TestLaws.{same-or-not}
-unfoldable pub use Rattle.roll.specs.Logs.{sumBelow}
+unfoldable pub use Rattle.roll.specs.Taken.{sumBelow}
 
 -- a number is at most another or not
 pub le-or-not : (a b : ℕ) → (a ≤ b) ⊎ (b < a)

@@ -1,4 +1,5 @@
 pub mod Record
+pub mod Heads
 pub mod Newest
 pub mod Taking
 pub mod Loops

@@ -7,7 +7,7 @@ ghost use mathlib.Core.Path.{_≡_};
 ghost use mathlib.Core.List.{List};
 ghost use Prim.Native.Nat.{ℕ};
 ghost use lib.ListN.{take};
-ghost use Rattle.post.specs.Record.{postOf};
+ghost use Rattle.post.specs.Heads.{postOf};
 ghost use Rattle.text.specs.Writing.{out, wrote};
 ghost use Rattle.meaning.specs.Texts.{badText, refusedText, postText};
 ghost use Rattle.printout.specs.Items.{refusalOf, postHead, itemOf, itemsOf};

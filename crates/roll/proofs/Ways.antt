@@ -13,8 +13,9 @@ use Rattle.yard.specs.Worlds.{World, singles, worldOf}
 use Rattle.roll.specs.declared.RollAnswer as calling
 use Rattle.roll.specs.declared.RollCalled.{RollCalled}
 use Rattle.roll.specs.declared.YardRan.{YardRan}
-use Rattle.roll.specs.RollCall.{postsHear, beaconsSent, postsHearBeacons, rollSteps, rollRefusal, rollCall, rollLength, rollCallAir}
-use Rattle.roll.specs.Answers.{rollNumber, rollCount}
+use Rattle.roll.specs.RollCall.{postsHear, beaconsSent, postsHearBeacons, rollSteps, rollRefusal, rollCall, rollCallAir}
+use Rattle.roll.specs.Values.{rollLength, rollCount}
+use Rattle.roll.specs.Answers.{rollNumber}
 use Rattle.roll.specs.Loops.{yardRan}
 use Rattle.roll.proofs.RunLaws.{singles-append}
 

@@ -1,4 +1,4 @@
--- Document 01's number for each answer of a step, and a roll call's value. Assumes nothing.
+-- Document 01's number for each answer of a step. Assumes nothing.
 use Prim.Native.Nat.{ℕ}
 use Rattle.steps.specs.Answers.{orderNumber, hearNumber, beaconNumber}
 use Rattle.roll.specs.declared.RollAnswer as calling
@@ -8,11 +8,6 @@ use Rattle.roll.specs.Runs.{Answer, ordered, heard, beaconed, called}
 abbrev pub rollNumber : calling.RollAnswer → ℕ
 rollNumber (calling.the-variants.Called count) = 0
 rollNumber (calling.the-variants.Refused number) = number
-
--- the number of single steps that were run
-abbrev pub rollCount : calling.RollAnswer → ℕ
-rollCount (calling.the-variants.Called count) = count
-rollCount (calling.the-variants.Refused number) = 0
 
 -- the number of any answer
 abbrev pub answerNumber : Answer → ℕ

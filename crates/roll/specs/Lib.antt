@@ -3,3 +3,5 @@ pub mod Loops
 pub mod Runs
 pub mod Logs
 pub mod Answers
+pub mod Taken
+pub mod Values

@@ -80,10 +80,6 @@ rollCall w =
     (record { answer = calling.the-variants.Called (length (rollSteps w)); yard = singles w (rollSteps w) .yard })
     (record { answer = calling.the-variants.Refused (rollRefusal w); yard = w .yard })
 
--- "and returns the length of the list": 0 where it is refused
-unfoldable pub rollLength : World → ℕ
-rollLength w = cond (eqb (rollRefusal w) 0) (length (rollSteps w)) 0
-
 -- the air after it
 unfoldable pub rollCallAir : World → List ℕ
 rollCallAir w = cond (eqb (rollRefusal w) 0) (singles w (rollSteps w) .air) (w .air)

@@ -1,5 +1,5 @@
 // The roll call: the list of single steps of document 01, run one after another. The contract of `call` cites specs/RollCall.antt
-// and specs/Answers.antt; those of its loops cite specs/Loops.antt besides.
+// and specs/Values.antt; those of its loops cite specs/Loops.antt besides.
 use frame::Serial;
 use post::Post;
 use yard::Yard;
@@ -8,8 +8,9 @@ ghost use Prim.Native.Nat.{_-_, _≤_};
 ghost use lib.ListN.{getD};
 ghost use Rattle.cells.specs.Tables.{orderPlace};
 ghost use Rattle.yard.specs.Worlds.{singles, worldOf};
-ghost use Rattle.roll.specs.RollCall.{postsHear, beaconsSent, postsHearBeacons, rollSteps, rollRefusal, rollCall, rollLength, rollCallAir};
-ghost use Rattle.roll.specs.Answers.{rollNumber, rollCount};
+ghost use Rattle.roll.specs.RollCall.{postsHear, beaconsSent, postsHearBeacons, rollSteps, rollRefusal, rollCall, rollCallAir};
+ghost use Rattle.roll.specs.Values.{rollLength, rollCount};
+ghost use Rattle.roll.specs.Answers.{rollNumber};
 ghost use Rattle.roll.specs.Loops.{postWorld, hearings, postRan, yardRan, serials, laneFrames, lanesFrames, beaconFrames};
 
 // How many single steps the call ran, or the refusal (13, 27).

@@ -13,7 +13,7 @@ use Rattle.cells.specs.Sets.{hasLane}
 use Rattle.cells.specs.Tables.{orderPlace}
 use Rattle.post.specs.declared.Head.{Head}
 use Rattle.post.specs.declared.Post.{Post}
-use Rattle.post.specs.Record.{postOf}
+use Rattle.post.specs.Heads.{postOf}
 use Rattle.deliver.specs.Known.{Known}
 use Rattle.yard.specs.Worlds.{hear, singles, worldOf}
 use Rattle.lane_steps.specs.InPlace.{Left, heardIn}

@@ -7,16 +7,19 @@ use native.Mathlib.Omega.{arith}
 use lib.Dec.{ltb, leb, eqb}
 use lib.ListN.{getD}
 use borrow.Author.Tests.{ne-eqb, ltb-true, lt-leb}
-use Rattle.frame.specs.ReadWrite.{readOf, noFrame}
+use Rattle.frame.specs.ReadWrite.{readOf}
+use Rattle.frame.specs.Layout.{noFrame}
 use Rattle.frame.specs.declared.Frame.{Frame}
 use Rattle.frame.specs.declared.FrameRead.{FrameRead}
-use Rattle.air.specs.Air.{badAir, notOnAir, stretchRefusal, stretchOf}
+use Rattle.air.specs.Air.{badAir, notOnAir}
+use Rattle.air.specs.Stretch.{stretchRefusal, stretchOf}
 use Rattle.cells.specs.Sets.{hasLane}
 use Rattle.post.specs.declared.Post.{Post}
 use Rattle.frame.specs.declared.Serial.{Serial}
 use Rattle.post.specs.declared.Head.{Head}
 use Rattle.post.specs.Newest.{raisedBelow}
-use Rattle.post.specs.Record.{postOf, lastOf, withLog}
+use Rattle.post.specs.Record.{lastOf, withLog}
+use Rattle.post.specs.Heads.{postOf}
 use Rattle.post.specs.Taking.{raisedPost}
 use Rattle.deliver.specs.declared.NewLog.{NewLog}
 use Rattle.deliver.specs.Known.{joinedFrom, knownAfter}

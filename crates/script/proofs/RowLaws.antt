@@ -8,7 +8,7 @@ use lib.ListN.{getD, set, length-set}
 use lib.Seq.{getD-set-same, getD-set-other, ext-getD}
 use Rattle.frame.specs.Lanes.{lanes}
 use Rattle.post.specs.declared.Post.{Post}
-use Rattle.post.specs.Record.{postOf}
+use Rattle.post.specs.Heads.{postOf}
 use Rattle.deliver.specs.Known.{Known}
 use Rattle.laws.proofs.TestLaws.{same-or-not}
 use Rattle.yard.specs.Yards.{noPost}

@@ -9,7 +9,7 @@ use borrow.Author.Tests.{lt-ltb, le-ltb}
 use Rattle.cells.specs.Tables.{orderPlace}
 use Rattle.post.specs.declared.Head.{Head}
 use Rattle.post.specs.declared.Post.{Post}
-use Rattle.post.specs.Record.{postOf}
+use Rattle.post.specs.Heads.{postOf}
 use Rattle.deliver.specs.Known.{Known}
 use Rattle.steps.specs.Answers.{orderNumber, hearNumber, beaconNumber}
 use Rattle.yard.specs.declared.Yard.{Yard}

@@ -25,7 +25,7 @@ use Rattle.fits.proofs.Theorem.{fits}
 use Rattle.fits.proofs.LineLengths.{accepted}
 use Rattle.fits.proofs.FirstLine.{yard-accepted, yard-made, accepted-first}
 use Rattle.agreement.specs.Demand3.{freshWorld}
-use Rattle.agreement.proofs.Theorem.{agreement}
+use Rattle.agreement.proofs.Theorem.{facts}
 use Rattle.roll.specs.Runs.{run}
 use Rattle.script.specs.Run.{bytesPrinted, outputAfter, airLeft}
 use Rattle.script.specs.declared.Sets.{Sets}
@@ -86,19 +86,16 @@ zero-good st = record {
   known = λ i low. none-known (rowKnown zeroRows i) (rowPost st zeroRows i) (zero-row i low);
 }
 
--- so demand 3 holds of it
+-- so the facts of a yard hold of it
 fresh-reached : (s air : List ℕ) (st : Sets) (k : Line) → lineAt s 0 ≡ k → numberOf k ≡ 0 → st ≡ setsOf k
     → Reached (worldOf (freshYard (st .present) (st .sources) (st .dests)) air)
 unfolding run
 fresh-reached s air st (Yard posts sources dests next) e z es =
     let r = accepted s 0 (Yard posts sources dests next) e refl .0 in
     rw es (record {
-      present = posts;
-      sources = sources;
-      dests = dests;
       fresh = freshWorld posts sources dests air;
       steps = [];
-      holds = agreement posts sources dests air (r .2) (r .3) (r .4) (yard-accepted posts sources dests (r .1) (r .5) (r .6));
+      holds = facts posts sources dests air (r .2) (r .3) (r .4) (yard-accepted posts sources dests (r .1) (r .5) (r .6));
       is = refl;
     })
 fresh-reached s air st (Order lane word next) e z es = absurd (omega (arith, accepted s 0 (Order lane word next) e z .0 .0))

@@ -1,4 +1,4 @@
--- In a world that a list of steps led to, a hearing is refused by 13, 21, 25 or 26 alone: demand 3, `refusals`. Assumes nothing.
+-- In a world that a list of steps led to, a hearing is refused by 13, 21, 25 or 26 alone: `refusals` of the facts of a yard. Assumes nothing.
 use mathlib.Core.Path.{_≡_, refl, sym, ap, _∙_}
 use mathlib.Core.Bool.{Bool, true, false, cond, not}
 use mathlib.Core.List.{List, [], _∷_, _++_, map}
@@ -38,9 +38,6 @@ run-after w (s ∷ l) m = run-after (step w s) l m
 -- further steps
 pub reached-run : (w : World) (l : List Step) → Reached w → Reached (run w l)
 reached-run w l r = record {
-  present = r .present;
-  sources = r .sources;
-  dests = r .dests;
   fresh = r .fresh;
   steps = r .steps ++ l;
   holds = r .holds;

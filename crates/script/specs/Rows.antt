@@ -7,7 +7,7 @@ use lib.ListN.{length, getD, set}
 use Rattle.frame.specs.Lanes.{lanes}
 use Rattle.post.specs.declared.Head.{Head}
 use Rattle.post.specs.declared.Post.{Post}
-use Rattle.post.specs.Record.{postOf}
+use Rattle.post.specs.Heads.{postOf}
 use Rattle.deliver.specs.Known.{Known}
 use Rattle.yard.specs.declared.Yard.{Yard}
 use Rattle.lane_steps.specs.InPlace.{SameRoles}
@@ -15,7 +15,7 @@ use Rattle.yard.specs.Yards.{postAt}
 use Rattle.yard.specs.Worlds.{World}
 use Rattle.roll.specs.Runs.{Step, run}
 use Rattle.roll.specs.Loops.{postWorld, hearings}
-use Rattle.agreement.specs.Demand3.{Demand3}
+use Rattle.agreement.specs.YardFacts.{YardFacts}
 use Rattle.script.specs.declared.Sets.{Sets}
 
 -- the rows of the posts, and of each post up to which serials its log is known
@@ -107,16 +107,13 @@ abbrev pub HeardAll : Post → Post → List ℕ → ℕ → ℕ → List ℕ �
 HeardAll p q known frames after air exit ks =
     (postWorld q after exit ≡ hearings (postWorld p frames air) ks) × Known known q × SameRoles p q × (q .serial ≡ p .serial)
 
--- ---- worlds of which demand 3 speaks
+-- ---- worlds that steps lead to
 
 -- a world that a list of steps led to from a fresh one
 pub record Reached (w : World) : Type 0 where
-  pub present : ℕ
-  pub sources : ℕ
-  pub dests : ℕ
   pub fresh : World
   pub steps : List Step
-  pub holds : Demand3 present sources dests fresh
+  pub holds : YardFacts fresh
   pub is : w ≡ run fresh steps
 
 -- rows with so many frames on the air are those of such a world

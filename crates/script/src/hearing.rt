@@ -1,11 +1,11 @@
-// A hearing of one post in a yard, in place. That a frame on the air reads, and that 24 and 28 to 30 do not arise, is part of
-// demand 3 (`refusals`), so a hearing that takes nothing is not judged by them. The contract cites InPlace.antt of `lane_steps`.
+// A hearing of one post in a yard, in place. That a frame on the air reads, and that 24 and 28 to 30 do not arise, is one of the
+// facts of a yard (`refusals`), so a hearing that takes nothing is not judged by them. The contract cites InPlace.antt of `lane_steps`.
 use frame::Frame;
 use frame::Serial;
 use lane_steps::Placed;
 use post::Head;
 ghost use mathlib.Core.Path.{_≡_};
-ghost use Rattle.post.specs.Record.{postOf};
+ghost use Rattle.post.specs.Heads.{postOf};
 ghost use Rattle.steps.specs.Refusals.{isNext};
 ghost use Rattle.lane_steps.specs.InPlace.{Left, heardIn};
 ghost use Rattle.script.specs.Rows.{Stands};

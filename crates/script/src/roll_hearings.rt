@@ -12,7 +12,7 @@ ghost use lib.Dec.{eqb};
 ghost use lib.ListN.{getD};
 ghost use Rattle.cells.specs.Sets.{hasLane};
 ghost use Rattle.cells.specs.Tables.{orderPlace};
-ghost use Rattle.post.specs.Record.{postOf};
+ghost use Rattle.post.specs.Heads.{postOf};
 ghost use Rattle.deliver.specs.Known.{Known};
 ghost use Rattle.roll.specs.Loops.{laneFrames, lanesFrames, beaconFrames};
 ghost use Rattle.script.specs.Rows.{HeardAll, Stands};

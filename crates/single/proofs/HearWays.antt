@@ -9,9 +9,9 @@ use lib.ListN.{length}
 use borrow.Author.Tests.{eq-eqb, ne-eqb, eqb-true}
 use Rattle.frame.specs.declared.Frame.{Frame}
 use Rattle.frame.specs.declared.FrameRead.{FrameRead}
-use Rattle.frame.specs.Layout.{frameOf, bytesOf}
+use Rattle.frame.specs.Layout.{frameOf, bytesOf, noFrame}
 use Rattle.frame.specs.Refusals.{readRefusal, frameRefusal}
-use Rattle.frame.specs.ReadWrite.{noFrame, readOf, written}
+use Rattle.frame.specs.ReadWrite.{readOf, written}
 use Rattle.frame.proofs.Laws.{not-32, is-32, readable}
 use Rattle.post.specs.declared.Post.{Post}
 use Rattle.post.specs.Record.{lastOf}

@@ -6,7 +6,8 @@ use Prim.Native.Nat.{ℕ, zero, suc, _<_}
 use native.Mathlib.Omega.{arith}
 use lib.Dec.{eqb}
 use borrow.Author.Tests.{eqb-true}
-use Rattle.frame.specs.Layout.{AreBytes, Fits, frameOf, entryOf}
+use Rattle.frame.specs.Layout.{frameOf, entryOf}
+use Rattle.frame.specs.Types.{AreBytes, Fits}
 use Rattle.frame.specs.Refusals.{badLength, readRefusal}
 use Rattle.frame.proofs.Laws.{passed, readable}
 use Rattle.post.specs.declared.Post.{Post}
@@ -17,6 +18,7 @@ use Rattle.steps.specs.Steps.{orderSent, orderStep}
 use Rattle.laws.proofs.Valid.{Shaped}
 use Rattle.laws.proofs.ValidFresh.{fresh-shaped}
 use Rattle.laws.proofs.StepLaws.{order-judged, hear-judged}
+use Rattle.single.specs.Lasting.{SinglyStep, toOrder, toHear, toBeacon, leftSingly, runSingly}
 use Rattle.single.specs.Single.{freshRefusal, freshSingly, orderRefusalSingly, orderSingly, hearRefusalSingly, hearSingly}
 
 -- a record that 12 does not turn down, with what its type says
@@ -114,36 +116,20 @@ hear-good p bytes buffer h g = go (eqb (hearRefusalSingly p bytes buffer) 0) ref
 
 -- ---- any list of steps
 
--- a step of a post run singly, with what its types say
-pub data Step : Type 0 where
-  order : (word : ℕ) → word < 65536 → List ℕ → Step
-  hear : (bytes : List ℕ) → AreBytes bytes → List ℕ → Step
-  beacon : List ℕ → Step
+step-good : (p : Post) (s : SinglyStep) → Good p → Good (leftSingly p s)
+unfolding leftSingly
+step-good p (toOrder word w buffer) g = order-good p word buffer w g
+step-good p (toHear bytes h buffer) g = hear-good p bytes buffer h g
+step-good p (toBeacon buffer) g = g
 
--- the post after it; a beacon leaves it
-pub after : Post → Step → Post
-after p (order word w buffer) = orderSingly p word buffer .post
-after p (hear bytes h buffer) = hearSingly p bytes buffer .post
-after p (beacon buffer) = p
-
-pub run : Post → List Step → Post
-run p [] = p
-run p (s ∷ steps) = run (after p s) steps
-
-step-good : (p : Post) (s : Step) → Good p → Good (after p s)
-unfolding after
-step-good p (order word w buffer) g = order-good p word buffer w g
-step-good p (hear bytes h buffer) g = hear-good p bytes buffer h g
-step-good p (beacon buffer) g = g
-
-pub run-good : (p : Post) (steps : List Step) → Good p → Good (run p steps)
-unfolding run
+pub run-good : (p : Post) (steps : List SinglyStep) → Good p → Good (runSingly p steps)
+unfolding runSingly
 run-good p [] g = g
-run-good p (s ∷ steps) g = run-good (after p s) steps (step-good p s g)
+run-good p (s ∷ steps) g = run-good (leftSingly p s) steps (step-good p s g)
 
 -- 12 never arises after a good start
 pub never-12 : (lane posts sources dests : ℕ) → posts < 256 → sources < 256 → dests < 256 → freshSingly lane posts sources dests .refusal ≡ 0
-    → (steps : List Step)
-    → badRecord (run (freshSingly lane posts sources dests .post) steps) ≡ false
+    → (steps : List SinglyStep)
+    → badRecord (runSingly (freshSingly lane posts sources dests .post) steps) ≡ false
 never-12 lane posts sources dests a b c z steps =
     run-good (freshSingly lane posts sources dests .post) steps (fresh-good lane posts sources dests a b c z) .judged

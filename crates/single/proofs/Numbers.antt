@@ -15,7 +15,8 @@ use Rattle.post.specs.Record.{lastOf}
 use Rattle.post.specs.Taking.{ownTaken, kept, ticked, raisedPost, taken}
 use Rattle.deliver.specs.Delivery.{delivered}
 use Rattle.judge.specs.Judgement.{badRecord}
-use Rattle.steps.specs.Answers.{orderNumber, orderSerial, orderStamp, orderCount, hearNumber, hearCount, beaconNumber}
+use Rattle.steps.specs.Answers.{orderNumber, hearNumber, beaconNumber}
+use Rattle.steps.specs.Values.{orderSerial, orderStamp, orderCount, hearCount}
 use Rattle.steps.specs.Refusals.{isOrder, isNext, hearRefusal}
 use Rattle.steps.specs.Steps.{orderSent, hearTaken, otherAnswer, hearOther, hearStep}
 use Rattle.steps.specs.declared.OrderAnswer as orders

@@ -6,7 +6,8 @@ use steps::BeaconAnswer;
 use steps::HearAnswer;
 use steps::OrderAnswer;
 ghost use mathlib.Core.Path.{_≡_};
-ghost use Rattle.steps.specs.Answers.{orderNumber, orderSerial, orderStamp, orderCount, hearNumber, hearCount, beaconNumber};
+ghost use Rattle.steps.specs.Answers.{orderNumber, hearNumber, beaconNumber};
+ghost use Rattle.steps.specs.Values.{orderSerial, orderStamp, orderCount, hearCount};
 ghost use Rattle.single.specs.Single.{freshSingly, orderRefusalSingly, orderSingly, orderSerialSingly, orderStampSingly, orderCountSingly, orderBuffer, hearRefusalSingly, hearSingly, hearCountSingly, hearBuffer, beaconRefusalSingly, beaconSingly, beaconBuffer};
 
 // A fresh post and 0, or the refusal (12, 21) and a record of zeros.

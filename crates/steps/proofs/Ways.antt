@@ -1,5 +1,5 @@
 -- The ways through the steps. Assumes nothing.
-use mathlib.Core.Path.{_≡_, refl, sym, ap, _∙_}
+use mathlib.Core.Path.{_≡_, refl, sym, _∙_}
 use mathlib.Core.Bool.{Bool, true, false, cond}
 use mathlib.Core.List.{List}
 use Prim.Native.Nat.{ℕ, _+_, _<_, max}
@@ -10,12 +10,13 @@ use Rattle.frame.specs.declared.Entry.{Entry}
 use Rattle.frame.specs.declared.Frame.{Frame}
 use Rattle.frame.specs.declared.Serial.{Serial}
 use Rattle.frame.specs.declared.Stamp.{Stamp}
-use Rattle.frame.specs.ReadWrite.{noFrame}
+use Rattle.frame.specs.Layout.{noFrame}
 use Rattle.cells.specs.Sets.{hasLane}
 use Rattle.cells.specs.Tables.{withStamp, orderPlace}
 use Rattle.post.specs.declared.Head.{Head}
 use Rattle.post.specs.declared.Post.{Post}
-use Rattle.post.specs.Record.{isSource, lastOf, postOf, withClock, withOrders}
+use Rattle.post.specs.Record.{isSource, lastOf, withClock, withOrders}
+use Rattle.post.specs.Heads.{postOf}
 use Rattle.post.specs.Newest.{raisedBelow, newestEntries}
 use Rattle.post.specs.Taking.{kept, ticked, ownTaken, raisedPost, taken}
 use Rattle.deliver.specs.declared.Delivered.{Delivered}

@@ -1,4 +1,5 @@
 pub mod Refusals
 pub mod Steps
 pub mod Answers
+pub mod Values
 pub mod InPlace

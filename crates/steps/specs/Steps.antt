@@ -2,7 +2,7 @@
 use Prim.Native.Nat.{ℕ}
 use mathlib.Core.Bool.{cond}
 use lib.Dec.{leb, eqb}
-use Rattle.frame.specs.ReadWrite.{noFrame}
+use Rattle.frame.specs.Layout.{noFrame}
 use Rattle.frame.specs.declared.Frame.{Frame}
 use Rattle.post.specs.declared.Post.{Post}
 use Rattle.post.specs.Record.{lastOf}

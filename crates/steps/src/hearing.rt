@@ -14,7 +14,7 @@ ghost use Prim.Native.Nat.{ℕ, _+_, _<_, max};
 ghost use lib.ListN.{getD};
 ghost use Rattle.cells.specs.Sets.{hasLane};
 ghost use Rattle.frame.specs.Layout.{noEntry};
-ghost use Rattle.post.specs.Record.{postOf};
+ghost use Rattle.post.specs.Heads.{postOf};
 ghost use Rattle.post.specs.Taking.{taken};
 ghost use Rattle.steps.specs.Refusals.{isNext, clockPasses, hasStamp, strangeEntries, strange, notAbove, beyondOwn, hearRefusalBy};
 ghost use Rattle.steps.specs.Steps.{hearTaken, otherAnswer};

@@ -8,7 +8,7 @@ use post::Post;
 ghost use mathlib.Core.Path.{_≡_};
 ghost use mathlib.Core.List.{List};
 ghost use Prim.Native.Nat.{ℕ, _<_};
-ghost use Rattle.post.specs.Record.{postOf};
+ghost use Rattle.post.specs.Heads.{postOf};
 ghost use Rattle.post.specs.Taking.{ownTaken};
 ghost use Rattle.steps.specs.Refusals.{orderRefusalBy};
 ghost use Rattle.steps.specs.Steps.{orderSent};

@@ -2,8 +2,8 @@
 use mathlib.Core.Path.{refl}
 use Rattle.frame.specs.Lanes.{anyBelow}
 use Rattle.frame.specs.Layout.{frameOf, bytesOf}
-use Rattle.frame.specs.Refusals.{badEntries, frameRefusal, readRefusal, writeRefusal}
-use Rattle.frame.specs.ReadWrite.{readOf, written}
+use Rattle.frame.specs.Refusals.{badEntries, frameRefusal, readRefusal}
+use Rattle.frame.specs.ReadWrite.{writeRefusal, readOf, written}
 use Rattle.cells.specs.Tables.{stampUnder, withStamp}
 use Rattle.post.specs.Newest.{raised, raisedBelow, newer, newestBelow, newestEntries}
 use Rattle.post.specs.Taking.{kept, ticked, ownTaken, raisedPost, taken}

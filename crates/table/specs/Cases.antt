@@ -5,8 +5,8 @@ use mathlib.Core.Path.{_≡_}
 use mathlib.Core.List.{List, [], _∷_, _++_}
 use lib.ListN.{replicate, take, set}
 use Rattle.frame.specs.Layout.{noEntry}
-use Rattle.frame.specs.Refusals.{readRefusal, writeRefusal}
-use Rattle.frame.specs.ReadWrite.{readOf, written}
+use Rattle.frame.specs.Refusals.{readRefusal}
+use Rattle.frame.specs.ReadWrite.{writeRefusal, readOf, written}
 use Rattle.frame.specs.declared.Entry.{Entry}
 use Rattle.frame.specs.declared.Frame.{Frame}
 use Rattle.post.specs.Record.{freshPost}

@@ -12,14 +12,16 @@ use Rattle.post.specs.declared.Post.{Post}
 use Rattle.post.specs.Record.{lastOf}
 use Rattle.post.specs.Taking.{ownTaken, kept, ticked, raisedPost, taken}
 use Rattle.deliver.specs.Delivery.{delivered}
-use Rattle.steps.specs.Answers.{orderNumber, orderSerial, orderStamp, orderCount, hearNumber, hearCount, beaconNumber}
+use Rattle.steps.specs.Answers.{orderNumber, hearNumber, beaconNumber}
+use Rattle.steps.specs.Values.{orderSerial, orderStamp, orderCount, hearCount}
 use Rattle.steps.specs.Refusals.{notInYard, isOrder, isNext, orderRefusal, hearRefusal}
 use Rattle.steps.specs.Steps.{orderSent, orderStep, hearTaken, otherAnswer, hearOther, hearStep, beaconStep}
 use Rattle.steps.specs.declared.OrderAnswer as orders
 use Rattle.steps.specs.declared.HearAnswer as hearings
 use Rattle.steps.proofs.InPlaceLaws as laws
 use Rattle.yard.specs.Yards.{postAt}
-use Rattle.yard.specs.Singles.{postOrders, yardOrders, yardOrdersAir, orderRefusalInYard, orderSerialInYard, orderStampInYard, orderCountInYard, stopsHearing, frameAt, postHears, yardHears, yardHearsAir, hearRefusalInYard, hearCountInYard, postBeacons, yardBeacons, yardBeaconsAir, beaconRefusalInYard}
+use Rattle.yard.specs.Singles.{postOrders, yardOrders, yardOrdersAir, stopsHearing, frameAt, postHears, yardHears, yardHearsAir, postBeacons, yardBeacons, yardBeaconsAir}
+use Rattle.yard.specs.Answers.{orderRefusalInYard, orderSerialInYard, orderStampInYard, orderCountInYard, hearRefusalInYard, hearCountInYard, beaconRefusalInYard}
 use Rattle.yard.specs.declared.Yard.{Yard}
 use Rattle.yard.specs.declared.YardOrdered.{YardOrdered}
 use Rattle.yard.specs.declared.YardHeard.{YardHeard}

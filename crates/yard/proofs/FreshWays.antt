@@ -9,7 +9,9 @@ use lib.ListN.{replicate}
 use borrow.Author.Tests.{ne-eqb}
 use Rattle.post.specs.declared.Post.{Post}
 use Rattle.post.specs.Record.{freshPost}
-use Rattle.judge.specs.Judgement.{badRecord, recordRefusal}
+use Rattle.cells.specs.Sets.{roleAstray}
+use Rattle.judge.specs.Judgement.{recordRefusal}
+use Rattle.laws.proofs.ValidFresh as laws
 use Rattle.yard.specs.Yards.{freshYard, yardRefusal, yardMade}
 use Rattle.yard.specs.declared.Yard.{Yard}
 use Rattle.yard.specs.declared.FreshYard.{FreshYard}
@@ -31,16 +33,16 @@ pub all-fresh : (present sources dests : ℕ) (p0 p1 p2 p3 p4 p5 p6 p7 : Post)
 unfolding freshYard
 all-fresh present sources dests p0 p1 p2 p3 p4 p5 p6 p7 e0 e1 e2 e3 e4 e5 e6 e7 = rw (e0, e1, e2, e3, e4, e5, e6, e7)
 
--- 3, then 12
+-- 3, then 12: a fresh record is turned down for its roles alone
 fresh-judged : (present sources dests : ℕ) (p : Post) (n12 m n : ℕ) → p ≡ freshPost 0 present sources dests → n12 ≡ recordRefusal p
     → m ≡ cond (not (eqb n12 0)) 12 0 → n ≡ cond (eqb (ones present) 0) 3 m
     → n ≡ yardRefusal present sources dests
 unfolding yardRefusal
-fresh-judged present sources dests p n12 m n ep e12 em en = go (badRecord (freshPost 0 present sources dests)) refl
+fresh-judged present sources dests p n12 m n ep e12 em en = go (roleAstray present sources dests) refl
   where
-    go : (b : Bool) → badRecord (freshPost 0 present sources dests) ≡ b → n ≡ yardRefusal present sources dests
-    go true q = rw q (let z : n12 ≡ 12 = rw (ep, q) at e12 in let y : m ≡ 12 = rw z at em in rw y at en)
-    go false q = rw q (let z : n12 ≡ 0 = rw (ep, q) at e12 in let y : m ≡ 0 = rw z at em in rw y at en)
+    go : (b : Bool) → roleAstray present sources dests ≡ b → n ≡ yardRefusal present sources dests
+    go true q = rw q (let z : n12 ≡ 12 = rw (ep, laws.fresh-judged 0 present sources dests, q) at e12 in let y : m ≡ 12 = rw z at em in rw y at en)
+    go false q = rw q (let z : n12 ≡ 0 = rw (ep, laws.fresh-judged 0 present sources dests, q) at e12 in let y : m ≡ 0 = rw z at em in rw y at en)
 
 pub fresh-made : (present sources dests : ℕ) (p : Post) (n12 m n : ℕ) (y : Yard) → p ≡ freshPost 0 present sources dests → n12 ≡ recordRefusal p
     → m ≡ cond (not (eqb n12 0)) 12 0 → n ≡ cond (eqb (ones present) 0) 3 m → n ≡ 0 → y ≡ freshYard present sources dests

@@ -8,7 +8,8 @@ use lib.Dec.{eqb}
 use borrow.Author.Tests.{ne-eqb, lt-ltb, le-ltb}
 use Rattle.frame.specs.declared.FrameRead.{FrameRead}
 use Rattle.frame.specs.ReadWrite.{readOf}
-use Rattle.air.specs.Air.{badAir, notOnAir, stretchRefusal, stretchAt, stretchOf, airWith}
+use Rattle.air.specs.Air.{badAir, notOnAir, stretchAt, airWith}
+use Rattle.air.specs.Stretch.{stretchRefusal, stretchOf}
 use Rattle.post.specs.declared.Post.{Post}
 use Rattle.steps.specs.Refusals.{notInYard}
 use Rattle.steps.specs.Steps.{hearStep}

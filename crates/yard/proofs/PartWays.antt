@@ -6,7 +6,8 @@ use Prim.Native.Nat.{ℕ, _+_, _<_}
 use lib.Dec.{eqb}
 use borrow.Author.Tests.{ne-eqb}
 use Rattle.frame.specs.declared.Frame.{Frame}
-use Rattle.air.specs.Air.{badAir, notOnAir, stretchRefusal, placeRefusal}
+use Rattle.air.specs.Air.{badAir, notOnAir, placeRefusal}
+use Rattle.air.specs.Stretch.{stretchRefusal}
 use Rattle.air.proofs.Laws.{has-place}
 use Rattle.cells.specs.Sets.{hasLane}
 use Rattle.yard.specs.Singles.{framesAfter, absentRefusal}

@@ -1,3 +1,4 @@
 pub mod Yards
 pub mod Singles
 pub mod Worlds
+pub mod Answers

@@ -10,10 +10,7 @@ use Rattle.frame.specs.declared.Frame.{Frame}
 use Rattle.air.specs.Air.{badAir, notOnAir, stretchAt, placeRefusal, airWith}
 use Rattle.cells.specs.Tables.{orderPlace}
 use Rattle.post.specs.declared.Post.{Post}
-use Rattle.post.specs.Record.{lastOf}
-use Rattle.post.specs.Taking.{ownTaken, raisedPost, taken}
-use Rattle.deliver.specs.Delivery.{delivered}
-use Rattle.steps.specs.Refusals.{notInYard, isNext, orderRefusal, hearRefusal}
+use Rattle.steps.specs.Refusals.{notInYard}
 use Rattle.steps.specs.Steps.{orderStep, hearStep, beaconStep}
 use Rattle.steps.specs.declared.OrderAnswer as orders
 use Rattle.steps.specs.declared.HearAnswer as hearings
@@ -78,25 +75,6 @@ yardOrders air y lane word =
 unfoldable pub yardOrdersAir : List ℕ → Yard → ℕ → ℕ → List ℕ
 yardOrdersAir air y lane word = cond (ltb lane 8) (postOrdersAir air (postAt y lane) (y .frames) word) air
 
--- the number that it answers, or 0: 4, 5, 13, then 21 to 24
-unfoldable pub orderRefusalInYard : List ℕ → Yard → ℕ → ℕ → ℕ
-orderRefusalInYard air y lane word =
-    cond (ltb 7 lane) 4
-    (cond (ltb 65535 word) 5
-    (cond (badAir air) 13
-    (orderRefusal (postAt y lane))))
-
--- "An order answers with its serial, its stamp and the count delivered": the post's next serial and clock, and how many orders
--- then join its log; 0 where it is refused
-unfoldable pub orderSerialInYard : List ℕ → Yard → ℕ → ℕ → ℕ
-orderSerialInYard air y lane word = cond (eqb (orderRefusalInYard air y lane word) 0) (postAt y lane .serial .0 + 1) 0
-
-unfoldable pub orderStampInYard : List ℕ → Yard → ℕ → ℕ → ℕ
-orderStampInYard air y lane word = cond (eqb (orderRefusalInYard air y lane word) 0) (postAt y lane .clock .0 + 1) 0
-
-unfoldable pub orderCountInYard : List ℕ → Yard → ℕ → ℕ → ℕ
-orderCountInYard air y lane word = cond (eqb (orderRefusalInYard air y lane word) 0) (delivered (ownTaken (postAt y lane) word) .count) 0
-
 -- ---- hear: 4, 13, 21 and 25, what reading refuses (never in a yard), then 21, 24, 26 and 28 to 30 of the post's own step
 
 -- 13, 21 or 25 where frame k is not on the air, or 0
@@ -150,22 +128,6 @@ yardHears air y lane k =
 unfoldable pub yardHearsAir : List ℕ → Yard → ℕ → ℕ → List ℕ
 yardHearsAir air y lane k = cond (ltb lane 8) (postHearsAir air (postAt y lane) (y .frames) k) air
 
--- the number that it answers, or 0: 4, what stops it, then what the post's own step refuses
-unfoldable pub hearRefusalInYard : List ℕ → Yard → ℕ → ℕ → ℕ
-hearRefusalInYard air y lane k =
-    let p = postAt y lane in
-    let stops = stopsHearing air p (y .frames) k in
-    cond (ltb 7 lane) 4 (cond (eqb stops 0) (hearRefusal p (frameAt air k)) stops)
-
--- "each carrying the count delivered": how many orders join the log once the order is taken, or the entries alone; 0 where it is refused
-unfoldable pub hearCountInYard : List ℕ → Yard → ℕ → ℕ → ℕ
-hearCountInYard air y lane k =
-    let p = postAt y lane in
-    let f = frameAt air k in
-    cond (eqb (hearRefusalInYard air y lane k) 0)
-    (cond (isNext f (lastOf p (f .lane))) (delivered (taken p f) .count) (delivered (raisedPost p f) .count))
-    0
-
 -- ---- beacon: 4, 13, 21, 27 ("for a beacon 1,024 sent")
 
 -- what stops it before the post sends it
@@ -204,7 +166,3 @@ yardBeacons air y lane =
 -- the air after it
 unfoldable pub yardBeaconsAir : List ℕ → Yard → ℕ → List ℕ
 yardBeaconsAir air y lane = cond (ltb lane 8) (postBeaconsAir air (postAt y lane) (y .frames) (y .beacons)) air
-
--- the number that it answers, or 0: 4, 13, 21, 27
-unfoldable pub beaconRefusalInYard : List ℕ → Yard → ℕ → ℕ
-beaconRefusalInYard air y lane = cond (ltb 7 lane) 4 (stopsBeacon air (postAt y lane) (y .beacons))

@@ -6,9 +6,9 @@ use lib.Count.{ones}
 use lib.Dec.{eqb}
 use lib.ListN.{getD, replicate}
 use Rattle.frame.specs.Lanes.{lanes}
+use Rattle.cells.specs.Sets.{roleAstray}
 use Rattle.post.specs.declared.Post.{Post}
 use Rattle.post.specs.Record.{freshPost}
-use Rattle.judge.specs.Judgement.{badRecord}
 use Rattle.yard.specs.declared.Yard.{Yard}
 use Rattle.yard.specs.declared.FreshYard.{FreshYard}
 
@@ -44,11 +44,11 @@ freshYard present sources dests = record {
   first = replicate 128 0;
 }
 
--- 3, "no posts": N, the count of ones, is 0; 12, as each record would be judged: "a role at a lane without a post"
+-- 3, "no posts": N, the count of ones, is 0; 12, "a role at a lane without a post": then each record would be turned down, and only then
 unfoldable pub yardRefusal : ℕ → ℕ → ℕ → ℕ
 yardRefusal present sources dests =
     cond (eqb (ones present) 0) 3
-    (cond (badRecord (freshPost 0 present sources dests)) 12
+    (cond (roleAstray present sources dests) 12
     0)
 
 -- the fresh yard of three sets of lanes, or the refusal beside a yard without posts

@@ -1,5 +1,5 @@
 // The yard: up to eight posts and the lent air. Every step is judged for any yard and any air, and a refusal leaves both as they were.
-// The contracts cite specs/Yards.antt and specs/Singles.antt.
+// The contracts cite specs/Yards.antt and specs/Singles.antt, and specs/Answers.antt for what a step answers.
 pub mod parts;
 
 use air;
@@ -9,8 +9,10 @@ use steps::HearAnswer;
 use steps::OrderAnswer;
 ghost use mathlib.Core.Path.{_≡_};
 ghost use Rattle.yard.specs.Yards.{yardMade};
-ghost use Rattle.steps.specs.Answers.{orderNumber, orderSerial, orderStamp, orderCount, hearNumber, hearCount, beaconNumber};
-ghost use Rattle.yard.specs.Singles.{postOrders, postOrdersAir, yardOrders, yardOrdersAir, orderRefusalInYard, orderSerialInYard, orderStampInYard, orderCountInYard, postHears, postHearsAir, yardHears, yardHearsAir, hearRefusalInYard, hearCountInYard, postBeacons, postBeaconsAir, yardBeacons, yardBeaconsAir, beaconRefusalInYard};
+ghost use Rattle.steps.specs.Answers.{orderNumber, hearNumber, beaconNumber};
+ghost use Rattle.steps.specs.Values.{orderSerial, orderStamp, orderCount, hearCount};
+ghost use Rattle.yard.specs.Singles.{postOrders, postOrdersAir, yardOrders, yardOrdersAir, postHears, postHearsAir, yardHears, yardHearsAir, postBeacons, postBeaconsAir, yardBeacons, yardBeaconsAir};
+ghost use Rattle.yard.specs.Answers.{orderRefusalInYard, orderSerialInYard, orderStampInYard, orderCountInYard, hearRefusalInYard, hearCountInYard, beaconRefusalInYard};
 
 pub const LANES: usize = 8;
 

@@ -1,5 +1,5 @@
 use Rattle.text.proofs.Laws.{next}
-use Rattle.post.specs.Record.{postOf}
+use Rattle.post.specs.Heads.{postOf}
 use Rattle.roll.specs.Logs.{ordersLogged}
 use Rattle.meaning.specs.Texts.{itemsText, postText}
 use borrow.Author.Needs.{needs}

@@ -1,5 +1,5 @@
 use Rattle.steps.proofs.Ways.{beacon-sends, beacon-refused}
-use Rattle.post.specs.Record.{postOf}
+use Rattle.post.specs.Heads.{postOf}
 use Rattle.steps.proofs.beacon_in.Statement.{statement}
 use Rattle.steps.proofs.beacon_in.Tie as tie
 

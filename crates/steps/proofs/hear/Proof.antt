@@ -1,5 +1,5 @@
 use Rattle.steps.proofs.Ways.{same-post, hear-passes, hear-refused}
-use Rattle.post.specs.Record.{postOf}
+use Rattle.post.specs.Heads.{postOf}
 use Rattle.steps.proofs.hear.Statement.{statement}
 use Rattle.steps.proofs.hear.Tie as tie
 

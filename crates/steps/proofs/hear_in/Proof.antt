@@ -1,7 +1,7 @@
 use Rattle.steps.proofs.Ways.{each, can-pass, hear-took, hear-raised, hear-stays}
 use mathlib.Core.Path.{sym, _∙_}
 use mathlib.Core.List.{[]}
-use Rattle.post.specs.Record.{postOf}
+use Rattle.post.specs.Heads.{postOf}
 use Rattle.steps.proofs.hear_in.Statement.{statement}
 use Rattle.steps.proofs.hear_in.Tie as tie
 

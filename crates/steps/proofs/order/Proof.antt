@@ -1,5 +1,5 @@
 use Rattle.steps.proofs.Ways.{same-post, order-sends, order-refused}
-use Rattle.post.specs.Record.{postOf}
+use Rattle.post.specs.Heads.{postOf}
 use Rattle.steps.proofs.order.Statement.{statement}
 use Rattle.steps.proofs.order.Tie as tie
 

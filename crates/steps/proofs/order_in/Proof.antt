@@ -1,6 +1,6 @@
 use Rattle.steps.proofs.Ways.{each, can-rise, order-took, order-stays}
 use mathlib.Core.Path.{sym, _∙_}
-use Rattle.post.specs.Record.{postOf}
+use Rattle.post.specs.Heads.{postOf}
 use Rattle.steps.proofs.order_in.Statement.{statement}
 use Rattle.steps.proofs.order_in.Tie as tie
 

@@ -1,5 +1,5 @@
 use borrow.Author.Needs.{needs}
-use Rattle.frame.specs.Refusals.{startRefusal}
+use Rattle.frame.specs.Parts.{startRefusal}
 use Rattle.frame.proofs.Laws.{start-refused, entries-judged}
 use Rattle.frame.proofs.Frame.refusal.Statement.{statement}
 use Rattle.frame.proofs.Frame.refusal.Tie as tie

@@ -2,7 +2,7 @@ use borrow.Author.Needs.{needs}
 use native.Mathlib.Omega.{arith}
 use lib.ListN.{length-map}
 use mathlib.Core.Path.{_≡_, sym}
-use Rattle.frame.specs.Layout.{Fits}
+use Rattle.frame.specs.Types.{Fits}
 use Rattle.frame.proofs.Laws.{write-short, write-refused, write-accepted}
 use Rattle.frame.proofs.Theorems.{reads-back}
 use Rattle.frame.proofs.Values.{stamps-fit}

@@ -1,6 +1,6 @@
 use mathlib.Core.Path.{refl}
 use borrow.Author.Tests.{lt-ltb, le-ltb}
-use Rattle.frame.specs.Refusals.{startRefusal}
+use Rattle.frame.specs.Parts.{startRefusal}
 use Rattle.frame.proofs.Laws.{stops, passes}
 use Rattle.frame.proofs.refusals.of_start.Statement.{statement}
 use Rattle.frame.proofs.refusals.of_start.Tie as tie

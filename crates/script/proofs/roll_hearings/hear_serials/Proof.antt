@@ -1,4 +1,4 @@
-use Rattle.post.specs.Record.{postOf}
+use Rattle.post.specs.Heads.{postOf}
 use Rattle.roll.specs.Loops.{laneFrames}
 use Rattle.script.specs.Rows.{HeardAll}
 use Rattle.script.proofs.SoundLaws.{stands-more}

@@ -1,4 +1,4 @@
-use Rattle.post.specs.Record.{postOf}
+use Rattle.post.specs.Heads.{postOf}
 use Rattle.roll.specs.RollCall.{sourcesBelow}
 use Rattle.roll.specs.Loops.{beaconFrames}
 use Rattle.roll.proofs.PostTurns.{below-more}

@@ -2,7 +2,7 @@ use Rattle.steps.proofs.Ways.{take-source, take-other}
 use mathlib.Core.Path.{sym, ap, _∙_}
 use native.Mathlib.Omega.{arith}
 use Rattle.frame.specs.declared.Stamp.{Stamp}
-use Rattle.post.specs.Record.{postOf}
+use Rattle.post.specs.Heads.{postOf}
 use Rattle.steps.proofs.hearing.take_in.Statement.{statement}
 use Rattle.steps.proofs.hearing.take_in.Tie as tie
 

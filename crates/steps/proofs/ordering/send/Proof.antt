@@ -1,7 +1,7 @@
 use borrow.Author.Needs.{needs}
 use Rattle.steps.proofs.Ways.{send-frame}
 use mathlib.Core.Path.{refl}
-use Rattle.post.specs.Record.{postOf}
+use Rattle.post.specs.Heads.{postOf}
 use Rattle.steps.proofs.ordering.send.Statement.{statement}
 use Rattle.steps.proofs.ordering.send.Tie as tie
 

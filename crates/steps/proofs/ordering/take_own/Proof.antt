@@ -1,6 +1,6 @@
 use borrow.Author.Needs.{needs}
 use Rattle.steps.proofs.Ways.{take-own-is}
-use Rattle.post.specs.Record.{postOf}
+use Rattle.post.specs.Heads.{postOf}
 use Rattle.steps.proofs.ordering.take_own.Statement.{statement}
 use Rattle.steps.proofs.ordering.take_own.Tie as tie
 

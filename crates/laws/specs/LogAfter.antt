@@ -1,0 +1,49 @@
+-- The log after a step of one post, for `order-log`, `hear-log` and `places-rise`: document 01, "Deliver". Assumes nothing.
+use mathlib.Core.Path.{_≡_}
+use mathlib.Core.Bool.{true, cond}
+use mathlib.Core.List.{List, [], _∷_, _++_}
+use Prim.Native.Nat.{ℕ, _<_}
+use lib.ListN.{take}
+use Rattle.frame.specs.declared.Frame.{Frame}
+use Rattle.cells.specs.Tables.{keyOf}
+use Rattle.post.specs.declared.Post.{Post}
+use Rattle.post.specs.Record.{isDest, lastOf}
+use Rattle.post.specs.Taking.{raisedPost, taken}
+use Rattle.deliver.specs.Delivery.{isTaken, stampAt, duePlaces}
+use Rattle.steps.specs.Refusals.{isNext}
+use Rattle.laws.specs.Lists.{Mem, Begins}
+
+-- nothing stands in a list twice
+module _ {A : Type 0} where
+  abbrev pub NoRepeat : List A → Type 0
+  NoRepeat [] = Unit {0}
+  NoRepeat (x ∷ l) = (Mem x l → ⊥) × NoRepeat l
+
+-- keys rise strictly along a list
+abbrev pub RisingBy : (ℕ → ℕ) → List ℕ → Type 0
+RisingBy key [] = Unit {0}
+RisingBy key (x ∷ l) = ((y : ℕ) → Mem y l → key x < key y) × RisingBy key l
+
+-- "lowest stamp first, equal stamps by lower lane": the number by which the order at a place is delivered
+abbrev pub keyAt : Post → ℕ → ℕ
+keyAt p place = keyOf (stampAt p place) place
+
+-- the places of the log in turn
+abbrev pub logOf : Post → List ℕ
+logOf p = take (p .logged) (p .log)
+
+-- "Ready orders join the log": those due at a destination, none elsewhere
+abbrev pub joining : Post → List ℕ
+joining p = cond (isDest p (p .lane)) (duePlaces p) []
+
+-- the post that has heard f, just before it delivers
+unfoldable pub heardPost : Post → Frame → Post
+heardPost p f = cond (isNext f (lastOf p (f .lane))) (taken p f) (raisedPost p f)
+
+-- of p before a step, q just before delivery and r after the step: the log is the old one and then what joins it, every order in it was taken,
+-- and none stands there twice
+pub record LogAfter (p q r : Post) : Type 0 where
+  pub log : logOf r ≡ logOf p ++ joining q
+  pub begins : Begins (logOf p) (logOf r)
+  pub taken : (place : ℕ) → Mem place (logOf r) → (place < 128) × (isTaken r place ≡ true)
+  pub once : NoRepeat (logOf r)

@@ -148,33 +148,40 @@ fn last_under(table: &[u16], first: usize, stamp: Stamp) -> Serial
     requires { do ⌜ (first + 17 ≤ (← ⟦table.len()⟧)) × (0 < stamp .0) × (greatestBelow (now table) first 17 ≡ stamp .0) ⌝ }
     ensures { λ r. ⌜ r ≡ record { 0 = lastBelow (now (table .entry)) first (stamp .0) 17 } ⌝ }
 {
-    let mut last = Serial(0);
+    let mut highest: u8 = 0;
     for serial in 1..Post::SERIALS {
-        let found = serial_if(
+        let found = flagged(
             Stamp(table[first + (serial as usize)]),
             stamp,
             Serial(serial),
         );
-        last = higher(last, found);
+        highest = higher(highest, found);
     }
-    last
+    Serial(highest % 32)
 }
 
-// The serial if the stamp is the greatest, or else 0. By differences and not by a test: so written, the compiler does
-// eight serials at once.
-fn serial_if(stamp: Stamp, greatest: Stamp, serial: Serial) -> Serial
+// The serial with a flag, 32, if its stamp is the greatest, or else 0. By a product and not by a test, and of no factor
+// that is a power of two: so written, the compiler does eight serials at once.
+fn flagged(stamp: Stamp, greatest: Stamp, serial: Serial) -> u8
     requires { ⌜ (stamp .0 ≤ greatest .0) × (0 < greatest .0) × (serial .0 ≤ 16) ⌝ }
-    ensures { λ r. ⌜ r ≡ record { 0 = cond (eqb (stamp .0) (greatest .0)) (serial .0) 0 } ⌝ }
+    ensures { λ r. ⌜ r ≡ cond (eqb (stamp .0) (greatest .0)) (32 + serial .0) 0 ⌝ }
 {
-    let found = less(less(stamp.0, greatest.0 - 1) * 32, 32 - (serial.0 as u16));
-    Serial(found as u8)
+    (is_greatest(stamp, greatest) * (32 + (serial.0 as u16))) as u8
 }
 
-// The higher of two serials.
-fn higher(a: Serial, b: Serial) -> Serial
-    ensures { λ r. ⌜ r ≡ record { 0 = max (a .0) (b .0) } ⌝ }
+// 1 if the stamp is the greatest, or else 0: by how much it is above what lies just below the greatest.
+fn is_greatest(stamp: Stamp, greatest: Stamp) -> u16
+    requires { ⌜ (stamp .0 ≤ greatest .0) × (0 < greatest .0) ⌝ }
+    ensures { λ r. ⌜ r ≡ cond (eqb (stamp .0) (greatest .0)) 1 0 ⌝ }
 {
-    if a.0 < b.0 { b } else { a }
+    less(stamp.0, greatest.0 - 1)
+}
+
+// The higher of two flagged serials.
+fn higher(a: u8, b: u8) -> u8
+    ensures { λ r. ⌜ r ≡ max a b ⌝ }
+{
+    if a < b { b } else { a }
 }
 
 // The difference, and 0 where there is none.

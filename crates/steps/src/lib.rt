@@ -1,5 +1,6 @@
 // The steps of one post without the judgement of its record (12), for the crates that use it: total, and defined for every record.
-// Hosts use the crate `single`, which judges first. The contracts cite specs/Steps.antt, specs/Refusals.antt and specs/InPlace.antt.
+// Hosts use the crate `single`, which judges first. The contracts cite specs/Steps.antt, specs/Refusals.antt, specs/Answers.antt and
+// specs/InPlace.antt.
 mod hearing;
 mod ordering;
 
@@ -13,9 +14,10 @@ ghost use mathlib.Core.List.{List};
 ghost use Prim.Native.Nat.{ℕ};
 ghost use Rattle.frame.specs.ReadWrite.{noFrame};
 ghost use Rattle.post.specs.Record.{postOf};
-ghost use Rattle.steps.specs.Refusals.{orderRefusal, hearRefusal};
+ghost use Rattle.steps.specs.Refusals.{orderRefusal, hearRefusal, beaconRefusal};
 ghost use Rattle.steps.specs.Steps.{orderStep, hearStep, beaconStep};
-ghost use Rattle.steps.specs.InPlace.{headOf, orderTook, hearTook};
+ghost use Rattle.steps.specs.InPlace.{headOf, orderTook, hearTook, bare};
+ghost use Rattle.steps.specs.Answers.{orderNumber, orderSerial, orderStamp, orderCount, orderStepSerial, orderStepStamp, orderStepCount, hearNumber, hearCount, hearStepCount, beaconNumber};
 
 // What an order answers: its serial, its stamp and the count delivered, or the refusal.
 pub enum OrderAnswer {
@@ -73,6 +75,10 @@ pub struct Took {
 // Order (lane p, word).
 pub fn order(p: Post, word: u16) -> Ordered
     ensures { λ r. ⌜ r ≡ orderStep p word ⌝ }
+    ensures number { λ r. ⌜ orderNumber (r .answer) ≡ orderRefusal p ⌝ }
+    ensures serial { λ r. ⌜ orderSerial (r .answer) ≡ orderStepSerial p ⌝ }
+    ensures stamp { λ r. ⌜ orderStamp (r .answer) ≡ orderStepStamp p ⌝ }
+    ensures count { λ r. ⌜ orderCount (r .answer) ≡ orderStepCount p word ⌝ }
 {
     let h = head_of(p);
     let mut last = p.last;
@@ -109,6 +115,8 @@ pub fn order(p: Post, word: u16) -> Ordered
 // Hear (post p, frame).
 pub fn hear(p: Post, f: Frame) -> Heard
     ensures { λ r. ⌜ r ≡ hearStep p f ⌝ }
+    ensures number { λ r. ⌜ hearNumber (r .answer) ≡ hearRefusal p f ⌝ }
+    ensures count { λ r. ⌜ hearCount (r .answer) ≡ hearStepCount p f ⌝ }
 {
     let h = head_of(p);
     let mut last = p.last;
@@ -140,6 +148,7 @@ pub fn hear(p: Post, f: Frame) -> Heard
 // Beacon (post p, any role).
 pub fn beacon(p: Post) -> Beaconed
     ensures { λ r. ⌜ r ≡ beaconStep p ⌝ }
+    ensures number { λ r. ⌜ beaconNumber (r .answer) ≡ beaconRefusal p ⌝ }
 {
     beacon_in(head_of(p), &p.table)
 }
@@ -157,7 +166,7 @@ pub fn order_in(
     ensures post { λ r. ⌜ ((log : List ℕ) → postOf (r .head) (now (last .exit)) (now (table .exit)) (now (stamps .exit)) (now (words .exit)) log ≡ orderTook (postOf h (now (last .entry)) (now (table .entry)) (now (stamps .entry)) (now (words .entry)) log) word) ⌝ }
     ensures frame { λ r. ⌜ ((log : List ℕ) → r .frame ≡ orderStep (postOf h (now (last .entry)) (now (table .entry)) (now (stamps .entry)) (now (words .entry)) log) word .frame) ⌝ }
 {
-    let number = ordering::refusal(h.lane, h.posts, h.sources, h.serial, h.clock);
+    let number = ordering::refusal(h);
     if number == 0 {
         ordering::send(h, word, last, table, stamps, words)
     } else {
@@ -180,16 +189,7 @@ pub fn hear_in(
 {
     let serial = cells::last_taken(last, f.lane);
     let before = cells::stamp_at(stamps, cells::order_place(f.lane, serial));
-    let number = hearing::refusal(
-        h.lane,
-        h.posts,
-        h.sources,
-        h.serial,
-        h.clock,
-        serial,
-        before,
-        f,
-    );
+    let number = hearing::refusal(h, serial, before, f);
     if number != 0 {
         return unsent(number, h);
     }
@@ -205,6 +205,7 @@ pub fn hear_in(
 // A beacon by a lent table.
 pub fn beacon_in(h: Head, table: &[u16; 136]) -> Beaconed
     ensures { λ r. ⌜ ((last stamps words log : List ℕ) → r ≡ beaconStep (postOf h last (now (table .entry)) stamps words log)) ⌝ }
+    ensures number { λ r. ⌜ beaconNumber (r .answer) ≡ beaconRefusal (bare h) ⌝ }
 {
     if cells::has(h.posts, h.lane) {
         let entries = post::newest_entries(table);

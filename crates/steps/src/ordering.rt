@@ -10,17 +10,17 @@ ghost use mathlib.Core.List.{List};
 ghost use Prim.Native.Nat.{ℕ, _<_};
 ghost use Rattle.post.specs.Record.{postOf};
 ghost use Rattle.post.specs.Taking.{ownTaken};
-ghost use Rattle.steps.specs.Refusals.{orderRefusalBy};
+ghost use Rattle.steps.specs.Refusals.{orderRefusal};
 ghost use Rattle.steps.specs.Steps.{orderSent};
 
 // The lowest of 21 to 24 that holds, or 0.
-pub(crate) fn refusal(lane: u8, posts: u8, sources: u8, serial: Serial, clock: Stamp) -> u8
-    ensures { λ r. ⌜ r ≡ orderRefusalBy lane posts sources (serial .0) (clock .0) ⌝ }
+pub(crate) fn refusal(h: Head) -> u8
+    ensures { λ r. ⌜ ((last table stamps words log : List ℕ) → r ≡ orderRefusal (postOf h last table stamps words log)) ⌝ }
 {
-    let number = cells::pick(Post::CLOCK_LIMIT <= clock.0, 24, 0);
-    let number = cells::pick(Serial::LAST <= serial.0, 23, number);
-    let number = cells::pick(!cells::has(sources, lane), 22, number);
-    cells::pick(!cells::has(posts, lane), 21, number)
+    let number = cells::pick(Post::CLOCK_LIMIT <= h.clock.0, 24, 0);
+    let number = cells::pick(Serial::LAST <= h.serial.0, 23, number);
+    let number = cells::pick(!cells::has(h.sources, h.lane), 22, number);
+    cells::pick(!cells::has(h.posts, h.lane), 21, number)
 }
 
 // The post takes its own order and broadcasts it.

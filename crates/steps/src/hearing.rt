@@ -1,6 +1,8 @@
 // The hear step: its refusals 21, 24, 26 and 28 to 30, and what it does where none of them holds.
 use crate::HearAnswer;
 use crate::Took;
+use cells::PLACES;
+use cells::TABLE;
 use frame::Entry;
 use frame::Frame;
 use frame::Serial;
@@ -93,10 +95,10 @@ fn beyond_own(h: Head, f: Frame) -> bool
     order | (!(e.stamp.0 == 0) & ((h.serial.0 < e.serial.0) | (h.clock.0 < e.stamp.0)))
 }
 
-fn own_entry(entries: [Entry; 8], lane: u8) -> Entry
+fn own_entry(entries: [Entry; Frame::LANES], lane: u8) -> Entry
     ensures { λ r. ⌜ r ≡ getD entries lane noEntry ⌝ }
 {
-    if lane < 8 {
+    if lane < Post::LANES {
         entries[lane as usize]
     } else {
         Entry {
@@ -110,10 +112,10 @@ fn own_entry(entries: [Entry; 8], lane: u8) -> Entry
 pub(crate) fn take(
     h: Head,
     f: Frame,
-    last: &mut [u8; 8],
-    table: &mut [u16; 136],
-    stamps: &mut [u16; 128],
-    words: &mut [u16; 128],
+    last: &mut [u8; Frame::LANES],
+    table: &mut [u16; TABLE],
+    stamps: &mut [u16; PLACES],
+    words: &mut [u16; PLACES],
 ) -> Took
     requires { ⌜ (hasLane (h .sources) (h .lane) ≡ true → max (h .clock .0) (f .stamp .0) < 65535) ⌝ }
     ensures { λ r. ⌜ r .number ≡ 0 ⌝ }
@@ -144,10 +146,10 @@ pub(crate) fn take(
 fn take_in(
     h: Head,
     f: Frame,
-    last: &mut [u8; 8],
-    table: &mut [u16; 136],
-    stamps: &mut [u16; 128],
-    words: &mut [u16; 128],
+    last: &mut [u8; Frame::LANES],
+    table: &mut [u16; TABLE],
+    stamps: &mut [u16; PLACES],
+    words: &mut [u16; PLACES],
 ) -> Head
     requires { ⌜ (hasLane (h .sources) (h .lane) ≡ true → max (h .clock .0) (f .stamp .0) < 65535) ⌝ }
     ensures { λ r. ⌜ ((log : List ℕ) → postOf r (now (last .exit)) (now (table .exit)) (now (stamps .exit)) (now (words .exit)) log ≡ taken (postOf h (now (last .entry)) (now (table .entry)) (now (stamps .entry)) (now (words .entry)) log) f) ⌝ }

@@ -4,6 +4,8 @@
 mod hearing;
 mod ordering;
 
+use cells::PLACES;
+use cells::TABLE;
 use frame::Frame;
 use frame::Serial;
 use frame::Stamp;
@@ -157,10 +159,10 @@ pub fn beacon(p: Post) -> Beaconed
 pub fn order_in(
     h: Head,
     word: u16,
-    last: &mut [u8; 8],
-    table: &mut [u16; 136],
-    stamps: &mut [u16; 128],
-    words: &mut [u16; 128],
+    last: &mut [u8; Frame::LANES],
+    table: &mut [u16; TABLE],
+    stamps: &mut [u16; PLACES],
+    words: &mut [u16; PLACES],
 ) -> Took
     ensures { λ r. ⌜ ((log : List ℕ) → r .number ≡ orderRefusal (postOf h (now (last .entry)) (now (table .entry)) (now (stamps .entry)) (now (words .entry)) log)) ⌝ }
     ensures post { λ r. ⌜ ((log : List ℕ) → postOf (r .head) (now (last .exit)) (now (table .exit)) (now (stamps .exit)) (now (words .exit)) log ≡ orderTook (postOf h (now (last .entry)) (now (table .entry)) (now (stamps .entry)) (now (words .entry)) log) word) ⌝ }
@@ -178,10 +180,10 @@ pub fn order_in(
 pub fn hear_in(
     h: Head,
     f: Frame,
-    last: &mut [u8; 8],
-    table: &mut [u16; 136],
-    stamps: &mut [u16; 128],
-    words: &mut [u16; 128],
+    last: &mut [u8; Frame::LANES],
+    table: &mut [u16; TABLE],
+    stamps: &mut [u16; PLACES],
+    words: &mut [u16; PLACES],
 ) -> Took
     ensures { λ r. ⌜ ((log : List ℕ) → r .number ≡ hearRefusal (postOf h (now (last .entry)) (now (table .entry)) (now (stamps .entry)) (now (words .entry)) log) f) ⌝ }
     ensures post { λ r. ⌜ ((log : List ℕ) → postOf (r .head) (now (last .exit)) (now (table .exit)) (now (stamps .exit)) (now (words .exit)) log ≡ hearTook (postOf h (now (last .entry)) (now (table .entry)) (now (stamps .entry)) (now (words .entry)) log) f) ⌝ }
@@ -203,7 +205,7 @@ pub fn hear_in(
 }
 
 // A beacon by a lent table.
-pub fn beacon_in(h: Head, table: &[u16; 136]) -> Beaconed
+pub fn beacon_in(h: Head, table: &[u16; TABLE]) -> Beaconed
     ensures { λ r. ⌜ ((last stamps words log : List ℕ) → r ≡ beaconStep (postOf h last (now (table .entry)) stamps words log)) ⌝ }
     ensures number { λ r. ⌜ beaconNumber (r .answer) ≡ beaconRefusal (bare h) ⌝ }
 {
@@ -263,11 +265,11 @@ fn head_of(p: Post) -> Head
 // The post with these numbers and these arrays.
 fn post_of(
     h: Head,
-    last: [u8; 8],
-    table: [u16; 136],
-    stamps: [u16; 128],
-    words: [u16; 128],
-    log: [u8; 128],
+    last: [u8; Frame::LANES],
+    table: [u16; TABLE],
+    stamps: [u16; PLACES],
+    words: [u16; PLACES],
+    log: [u8; PLACES],
 ) -> Post
     ensures { λ r. ⌜ r ≡ postOf h last table stamps words log ⌝ }
 {

@@ -1,5 +1,7 @@
 // The order step: its refusals 21 to 24, and what it does where none of them holds.
 use crate::Took;
+use cells::PLACES;
+use cells::TABLE;
 use frame::Frame;
 use frame::Serial;
 use frame::Stamp;
@@ -27,10 +29,10 @@ pub(crate) fn refusal(h: Head) -> u8
 pub(crate) fn send(
     h: Head,
     word: u16,
-    last: &mut [u8; 8],
-    table: &mut [u16; 136],
-    stamps: &mut [u16; 128],
-    words: &mut [u16; 128],
+    last: &mut [u8; Frame::LANES],
+    table: &mut [u16; TABLE],
+    stamps: &mut [u16; PLACES],
+    words: &mut [u16; PLACES],
 ) -> Took
     requires { ⌜ (h .clock .0 < 65535) × (h .serial .0 < 16) ⌝ }
     ensures { λ r. ⌜ r .number ≡ 0 ⌝ }
@@ -61,10 +63,10 @@ pub(crate) fn send(
 fn take_own(
     h: Head,
     word: u16,
-    last: &mut [u8; 8],
-    table: &mut [u16; 136],
-    stamps: &mut [u16; 128],
-    words: &mut [u16; 128],
+    last: &mut [u8; Frame::LANES],
+    table: &mut [u16; TABLE],
+    stamps: &mut [u16; PLACES],
+    words: &mut [u16; PLACES],
 ) -> Head
     requires { ⌜ (h .clock .0 < 65535) × (h .serial .0 < 16) ⌝ }
     ensures { λ r. ⌜ ((log : List ℕ) → postOf r (now (last .exit)) (now (table .exit)) (now (stamps .exit)) (now (words .exit)) log ≡ ownTaken (postOf h (now (last .entry)) (now (table .entry)) (now (stamps .entry)) (now (words .entry)) log) word) ⌝ }

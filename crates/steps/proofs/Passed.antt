@@ -6,18 +6,18 @@ use native.Mathlib.Omega.{arith}
 use Rattle.frame.specs.declared.Frame.{Frame}
 use Rattle.frame.proofs.Laws.{passed}
 use Rattle.post.specs.declared.Post.{Post}
-use Rattle.steps.specs.Refusals.{notInYard, noSource, allSent, clockSpent, orderRefusal, clockPasses, ownBroadcast, strange, notAbove, beyondOwn, hearRefusal}
+use Rattle.steps.specs.Refusals.{notInYard, noSource, serialsSpent, clockSpent, orderRefusal, clockPasses, ownBroadcast, strange, notAbove, beyondOwn, hearRefusal}
 
 pub order-passed : (p : Post) → orderRefusal p ≡ 0
-    → (notInYard (p .posts) (p .lane) ≡ false) × (noSource (p .sources) (p .lane) ≡ false) × (allSent (p .serial .0) ≡ false) × (clockSpent (p .clock .0) ≡ false)
+    → (notInYard (p .posts) (p .lane) ≡ false) × (noSource (p .sources) (p .lane) ≡ false) × (serialsSpent (p .serial .0) ≡ false) × (clockSpent (p .clock .0) ≡ false)
 unfolding orderRefusal
 order-passed p z =
     let r24 : ℕ = cond (clockSpent (p .clock .0)) 24 0 in
-    let r23 : ℕ = cond (allSent (p .serial .0)) 23 r24 in
+    let r23 : ℕ = cond (serialsSpent (p .serial .0)) 23 r24 in
     let r22 : ℕ = cond (noSource (p .sources) (p .lane)) 22 r23 in
     let a = passed (notInYard (p .posts) (p .lane)) 21 r22 (omega arith) z in
     let b = passed (noSource (p .sources) (p .lane)) 22 r23 (omega arith) (a .1) in
-    let c = passed (allSent (p .serial .0)) 23 r24 (omega arith) (b .1) in
+    let c = passed (serialsSpent (p .serial .0)) 23 r24 (omega arith) (b .1) in
     let d = passed (clockSpent (p .clock .0)) 24 0 (omega arith) (c .1) in
     (a .0, b .0, c .0, d .0)
 

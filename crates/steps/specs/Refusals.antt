@@ -21,8 +21,8 @@ abbrev pub noSource : ℕ → ℕ → Bool
 noSource sources lane = not (hasLane sources lane)
 
 -- 23. "That lane has sent 16."
-abbrev pub allSent : ℕ → Bool
-allSent serial = leb 16 serial
+abbrev pub serialsSpent : ℕ → Bool
+serialsSpent serial = leb 16 serial
 
 -- 24. "Clock would pass 65,535": by an order
 abbrev pub clockSpent : ℕ → Bool
@@ -33,7 +33,7 @@ unfoldable pub orderRefusal : Post → ℕ
 orderRefusal p =
     cond (notInYard (p .posts) (p .lane)) 21
     (cond (noSource (p .sources) (p .lane)) 22
-    (cond (allSent (p .serial .0)) 23
+    (cond (serialsSpent (p .serial .0)) 23
     (cond (clockSpent (p .clock .0)) 24
     0)))
 

@@ -15,7 +15,8 @@ use Rattle.roll.specs.Runs.{Order}
 use Rattle.roll.specs.Logs.{orderAt, ordersLogged, rank, inOrder, Rising}
 use Rattle.laws.proofs.TestLaws.{true-or-false, not-both, and-made, same-or-not, below-or-not}
 use Rattle.laws.proofs.ListLaws.{Mem, RisingBy}
-use Rattle.laws.proofs.LogLaws.{logOf, keyAt, logged-mem, mem-logged, is-due, due-is, places-due, due-places, places-rise}
+use Rattle.deliver.specs.Keys.{keyAt}
+use Rattle.laws.proofs.LogLaws.{logOf, logged-mem, mem-logged, is-due, due-is, places-due, due-places, places-rise}
 use Rattle.laws.proofs.Valid.{Shaped, Valid}
 use Rattle.laws.proofs.ValidLog.{delivered-log-only, delivered-log}
 use Rattle.model.proofs.Model.{Post, Roles, orderOf, takenBelow, has, ready, due, newLog, deliver}

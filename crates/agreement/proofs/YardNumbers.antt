@@ -12,11 +12,11 @@ use Rattle.frame.specs.Layout.{entryOf}
 use Rattle.cells.specs.Sets.{hasLane}
 use Rattle.post.specs.declared.Post as posts
 use Rattle.post.specs.Record.{lastOf}
-use Rattle.steps.specs.Refusals.{orderRefusalBy, orderRefusal, isNext, clockPasses, hearRefusalBy, hearRefusal}
+use Rattle.steps.specs.Refusals.{orderRefusal, isNext, clockPasses, lastStamp, hearRefusal}
 use Rattle.yard.specs.Yards.{postAt}
 use Rattle.yard.specs.Worlds.{World}
 use Rattle.laws.proofs.TestLaws.{same-or-not, true-or-false, and-parts, and-fails}
-use Rattle.laws.proofs.Hearable.{lastStamp, next-is, Hearable, hear-not-refused}
+use Rattle.laws.proofs.Hearable.{next-is, Hearable, hear-not-refused}
 use Rattle.laws.proofs.Broadcasts.{Sendable}
 use Rattle.model.proofs.Model.{Frame}
 use Rattle.model.proofs.Invariants.{Posts, stampOf, Sent, FrameOk, YardOk, sends-source}
@@ -29,7 +29,7 @@ module _ (present sources dests : ℕ) where
   pub order-number : (lane : ℕ) (p : posts.Post) → InYard present sources dests lane p → p .clock .0 < 65535
       → orderRefusal p
       ≡ cond (not (hasLane present lane)) 21 (cond (not (hasLane sources lane)) 22 (cond (leb 16 (p .serial .0)) 23 0))
-  unfolding orderRefusalBy
+  unfolding orderRefusal
   order-number lane p i c =
       rw (i .itsPosts, i .itsSources, i .itsLane, lt-leb 65535 (p .clock .0) c)
 
@@ -56,7 +56,7 @@ module _ (present sources dests : ℕ) where
         omega (arith, o .stampIs, y .selves (f .lane) .stampsUnderClock (f .serial .0) (o .fromOne) (o .wasSent), low (f .lane))
 
     -- 24 does not arise
-    no-24 : clockPasses (p .lane) (p .sources) (p .clock .0) (lastOf p (f .lane)) f ≡ false
+    no-24 : clockPasses p f ≡ false
     no-24 =
         and-fails (isNext f (lastOf p (f .lane)) && hasLane (p .sources) (p .lane)) (leb 65535 (max (p .clock .0) (f .stamp .0)))
         (λ t.
@@ -108,6 +108,6 @@ module _ (present sources dests : ℕ) where
       where
         go : (hasLane present lane ≡ true) ⊎ (hasLane present lane ≡ false) → (f .sender ≡ lane) ⊎ (f .sender ≢ lane)
             → hearRefusal p f ≡ cond (not (hasLane present lane)) 21 (cond (eqb (f .sender) lane) 26 0)
-        go (inr e) q = rw e (unfold hearRefusalBy in rw (inYard .itsPosts, inYard .itsLane, e))
-        go (inl e) (inl q) = rw (e, eq-eqb (f .sender) lane q) (unfold hearRefusalBy in rw (no-24, inYard .itsPosts, inYard .itsLane, e, eq-eqb (f .sender) lane q))
+        go (inr e) q = rw e (unfold hearRefusal in rw (inYard .itsPosts, inYard .itsLane, e))
+        go (inl e) (inl q) = rw (e, eq-eqb (f .sender) lane q) (unfold hearRefusal in rw (no-24, inYard .itsPosts, inYard .itsLane, e, eq-eqb (f .sender) lane q))
         go (inl e) (inr q) = rw (e, ne-eqb (f .sender) lane q) (hear-not-refused p f (hearable-here e q))

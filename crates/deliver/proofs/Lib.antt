@@ -1,4 +1,5 @@
 pub mod Turns
+pub mod Keys
 pub mod Gathering
 pub mod Waiting
 pub mod Bytes

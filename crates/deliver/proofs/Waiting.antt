@@ -15,7 +15,7 @@ use Rattle.frame.specs.declared.Stamp.{Stamp}
 use Rattle.post.specs.declared.Post.{Post}
 use Rattle.deliver.specs.declared.Least.{Least}
 use Rattle.deliver.specs.declared.NewLog.{NewLog}
-use Rattle.deliver.specs.Delivery.{isTaken, isLogged, isDue, stampAt, allBelow, agrees, sort}
+use Rattle.deliver.specs.Delivery.{isTaken, isLogged, isDue, stampAt, allBelow, agrees, sortBy}
 use Rattle.deliver.specs.Known.{isDueFrom, dueBelowFrom, duePlacesFrom, dueLogFrom}
 use Rattle.deliver.specs.Loops.{sameAt, upTo, readyAt, readyIn, leastBelow}
 use Rattle.deliver.proofs.Gathering.{agree-all}
@@ -130,7 +130,7 @@ module _ (known : List ℕ) (p : Post) where
 
   log-none : ((place : ℕ) → place < 128 → isDueFrom known p place ≡ false)
       → _≡_ {A = NewLog} (record { log = p .log; logged = min (p .logged) 128; count = 0 }) (dueLogFrom known p)
-  unfolding dueLogFrom duePlacesFrom sort
+  unfolding dueLogFrom duePlacesFrom sortBy
   log-none none = let z : p .logged + 0 ≡ p .logged = omega arith in rw (below-none 128 (omega arith) none, z)
 
   not-waiting : (taken logged agreed passed : Bool) → (taken ≡ true → passed ≡ true) → (taken && not logged && agreed && not passed) ≡ false

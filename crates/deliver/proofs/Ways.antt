@@ -13,9 +13,11 @@ use Rattle.deliver.specs.declared.Delivered.{Delivered}
 use Rattle.deliver.specs.declared.Joined.{Joined}
 use Rattle.deliver.specs.declared.NewLog.{NewLog}
 use Rattle.deliver.specs.declared.Least.{Least}
-use Rattle.deliver.specs.Delivery.{allBelow, sort, delivered}
+use Rattle.deliver.specs.Delivery.{allBelow, comesBefore, sortBy, delivered}
 use Rattle.deliver.specs.Known.{Known, dueBelowFrom, duePlacesFrom, dueLogFrom, joinedFrom, knownBelow, knownAfter}
 use Rattle.deliver.specs.Loops.{sameAt, readyIn, leastBelow, marksBelow, Gathered, gathered, gatheredAll, appendedBelow, logBy}
+use Rattle.deliver.specs.Keys.{keyAt}
+use Rattle.deliver.proofs.Keys.{places-of}
 use Rattle.deliver.proofs.Gathering.{gatheredOfAll, sorts, appended-is}
 use Rattle.deliver.proofs.Waiting.{none-waits, none-ready}
 use Rattle.deliver.proofs.KnownLaws.{known-none, below-known, joined-is}
@@ -29,10 +31,12 @@ log-is known p =
     let n : ℕ = g .count in
     let few : n ≤ length (g .keys) = omega (arith, s .few, s .long) in
     let ln : n ≡ length (duePlacesFrom known p)
-    = sym (length-map (sort (dueBelowFrom known p 128)) (λ (key : ℕ). key % 128) ∙ ap length (sym (s .is)) ∙ length-take n (g .keys) ∙ omega arith)
+    = sym (sym (length-map (sortBy (comesBefore p) (dueBelowFrom known p 128)) (keyAt p)) ∙ ap length (sym (s .is)) ∙ length-take n (g .keys) ∙ omega arith)
     in
     let lg : appendedBelow (p .log) (p .logged) (g .keys) n ≡ sets (p .log) (p .logged) (duePlacesFrom known p)
-    = appended-is (p .log) (p .logged) (g .keys) n few ∙ ap (λ (x : List ℕ). sets (p .log) (p .logged) (map (λ (key : ℕ). key % 128) x)) (s .is)
+    = appended-is (p .log) (p .logged) (g .keys) n few
+    ∙ ap (λ (x : List ℕ). sets (p .log) (p .logged) (map (λ (key : ℕ). key % 128) x)) (s .is)
+    ∙ ap (sets (p .log) (p .logged)) (places-of p (sortBy (comesBefore p) (dueBelowFrom known p 128)) (s .sorted))
     in
     rw (lg, ← ln)
 

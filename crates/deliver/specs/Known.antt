@@ -2,15 +2,14 @@
 use mathlib.Core.Path.{_≡_}
 use Prim.Native.Nat.{ℕ, zero, suc, _+_, _-_, _*_, _/_, _%_, _<_, min}
 use mathlib.Core.Bool.{Bool, true, cond, not, _&&_}
-use mathlib.Core.List.{List, [], _∷_, map}
+use mathlib.Core.List.{List, [], _∷_}
 use lib.Dec.{ltb, eqb}
 use lib.ListN.{length, getD, set}
 use lib.Seq.{sets}
-use Rattle.cells.specs.Tables.{keyOf}
 use Rattle.post.specs.declared.Post.{Post}
 use Rattle.post.specs.Record.{isDest}
 use Rattle.deliver.specs.declared.NewLog.{NewLog}
-use Rattle.deliver.specs.Delivery.{isLogged, isDue, stampAt, sort}
+use Rattle.deliver.specs.Delivery.{isLogged, isDue, comesBefore, sortBy}
 
 -- `known` has for each lane the serial up to which its orders are known to be logged: all that it says is so
 pub record Known (known : List ℕ) (p : Post) : Type 0 where
@@ -20,15 +19,14 @@ pub record Known (known : List ℕ) (p : Post) : Type 0 where
 unfoldable pub isDueFrom : List ℕ → Post → ℕ → Bool
 isDueFrom known p place = isDue p place && not (ltb (place % 16) (getD known (place / 16) 0))
 
--- their keys at places below n
+-- their places below n
 unfoldable pub dueBelowFrom : List ℕ → Post → ℕ → List ℕ
 dueBelowFrom known p zero = []
-dueBelowFrom known p (suc place) =
-    cond (isDueFrom known p place) (keyOf (stampAt p place) place ∷ dueBelowFrom known p place) (dueBelowFrom known p place)
+dueBelowFrom known p (suc place) = cond (isDueFrom known p place) (place ∷ dueBelowFrom known p place) (dueBelowFrom known p place)
 
--- their places, in the order of delivery
+-- in the order of delivery
 unfoldable pub duePlacesFrom : List ℕ → Post → List ℕ
-duePlacesFrom known p = map (λ (key : ℕ). key % 128) (sort (dueBelowFrom known p 128))
+duePlacesFrom known p = sortBy (comesBefore p) (dueBelowFrom known p 128)
 
 -- they follow the log, and are counted
 unfoldable pub dueLogFrom : List ℕ → Post → NewLog

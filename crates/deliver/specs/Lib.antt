@@ -1,3 +1,4 @@
 pub mod Delivery
+pub mod Keys
 pub mod Known
 pub mod Loops

@@ -68,7 +68,7 @@ fn entry_from(fields: &[u16], i: usize) -> Entry
     }
 }
 
-fn entries_from(fields: &[u16]) -> [Entry; 8]
+fn entries_from(fields: &[u16]) -> [Entry; Frame::LANES]
     requires { ⌜ length (now fields) ≡ 22 ⌝ }
     ensures { λ r. ⌜ r ≡ entriesFrom (now (fields .entry)) ⌝ }
 {

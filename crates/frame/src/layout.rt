@@ -72,7 +72,7 @@ pub(crate) fn entry_at(bytes: &[u8], i: usize) -> Entry
     }
 }
 
-fn entries_of(bytes: &[u8]) -> [Entry; 8]
+fn entries_of(bytes: &[u8]) -> [Entry; Frame::LANES]
     requires { ⌜ length (now bytes) ≡ 32 ⌝ }
     ensures { λ r. ⌜ r ≡ entriesOf (now (bytes .entry)) ⌝ }
 {

@@ -16,6 +16,8 @@ pub struct Serial(pub u8);
 
 impl Serial {
     pub const LAST: u8 = 16;
+
+    pub const COUNT: u8 = Serial::LAST + 1;
 }
 
 // A reading of a source's logical clock (a Lamport timestamp); 0 means none.
@@ -36,7 +38,7 @@ pub struct Frame {
     pub serial: Serial,
     pub stamp: Stamp,
     pub word: u16,
-    pub entries: [Entry; 8],
+    pub entries: [Entry; Frame::LANES],
 }
 
 // What reading gives: refusal 0 and the frame, or the refusal's number and a frame of zeros.
@@ -52,7 +54,7 @@ impl Frame {
 
     pub const LANES: usize = 8;
 
-    pub const LAST_LANE: u8 = 7;
+    pub const LAST_LANE: u8 = (Frame::LANES as u8) - 1;
 
     pub const ORDER: u8 = 1;
 
@@ -73,7 +75,7 @@ impl Frame {
             serial: Serial(0),
             stamp: Stamp(0),
             word: 0,
-            entries: [none; 8],
+            entries: [none; Frame::LANES],
         }
     }
 

@@ -1,4 +1,6 @@
 // The judgement of a post's record, refusal 12. The contract of `refusal` cites specs/Judgement.antt.
+use cells::PLACES;
+use frame::Frame;
 use frame::Serial;
 use frame::Stamp;
 use post::Post;
@@ -18,14 +20,17 @@ pub fn refusal(p: Post) -> u8
 {
     let last = cells::last_taken(&p.last, p.lane);
     let own = !(p.serial.0 == last.0);
-    let numbers = (7 < p.lane) | (Serial::LAST < p.serial.0) | (128 < p.logged) | bad_last(&p.last);
+    let numbers = (Frame::LAST_LANE < p.lane)
+        | (Serial::LAST < p.serial.0)
+        | (Post::PLACES < p.logged)
+        | bad_last(&p.last);
     let bad = numbers | bad_roles(p.posts, p.sources, p.dests) | own;
     let orders = bad_orders(&p.last, &p.stamps, &p.words);
     cells::pick(bad | orders | bad_log(&p.last, &p.log, p.logged), 12, 0)
 }
 
 // A last serial over 16.
-fn bad_last(last: &[u8; 8]) -> bool
+fn bad_last(last: &[u8; Frame::LANES]) -> bool
     ensures { λ r. ⌜ r ≡ anyBelow (λ (i : ℕ). ltb 16 (getD (now (last .entry)) i 0)) 8 ⌝ }
 {
     let mut bad = false;
@@ -54,7 +59,11 @@ fn bad_role(posts: u8, sources: u8, dests: u8, i: u8) -> bool
 }
 
 // An order missing up to the last serial taken, or kept beyond it.
-fn bad_orders<'a>(last: &'a [u8; 8], stamps: &'a [u16; 128], words: &'a [u16; 128]) -> bool
+fn bad_orders<'a>(
+    last: &'a [u8; Frame::LANES],
+    stamps: &'a [u16; PLACES],
+    words: &'a [u16; PLACES],
+) -> bool
     ensures { λ r. ⌜ r ≡ anyBelow (badOrderIn (now (last .entry)) (now (stamps .entry)) (now (words .entry))) 128 ⌝ }
 {
     let mut bad = false;
@@ -64,13 +73,13 @@ fn bad_orders<'a>(last: &'a [u8; 8], stamps: &'a [u16; 128], words: &'a [u16; 12
     bad
 }
 
-fn bad_lane<'a>(lane: u8, last: Serial, stamps: &'a [u16; 128], words: &'a [u16; 128]) -> bool
+fn bad_lane<'a>(lane: u8, last: Serial, stamps: &'a [u16; PLACES], words: &'a [u16; PLACES]) -> bool
     requires { ⌜ lane < 8 ⌝ }
     ensures { λ r. ⌜ r ≡ anyBelow (badLaneIn (last .0) (now (stamps .entry)) (now (words .entry)) lane) 16 ⌝ }
 {
     let mut bad = false;
-    for k in 0..16u8 {
-        let place = (lane * 16 + k) as usize;
+    for k in 0..Serial::LAST {
+        let place = (lane * Serial::LAST + k) as usize;
         bad = bad
             | bad_order(
                 k < last.0,
@@ -88,7 +97,7 @@ fn bad_order(taken: bool, stamp: Stamp, word: u16) -> bool
 }
 
 // A log that repeats an order or has one not taken, or something past its end.
-fn bad_log<'a>(last: &'a [u8; 8], log: &'a [u8; 128], logged: u8) -> bool
+fn bad_log<'a>(last: &'a [u8; Frame::LANES], log: &'a [u8; PLACES], logged: u8) -> bool
     ensures { λ r. ⌜ r ≡ anyBelow (badLoggedIn (now (last .entry)) (now (log .entry)) logged) 128 ⌝ }
 {
     let n = at_most_128(logged);
@@ -98,38 +107,38 @@ fn bad_log<'a>(last: &'a [u8; 8], log: &'a [u8; 128], logged: u8) -> bool
 fn at_most_128(n: u8) -> u8
     ensures { λ r. ⌜ r ≡ min n 128 ⌝ }
 {
-    if n < 128 { n } else { 128 }
+    if n < Post::PLACES { n } else { Post::PLACES }
 }
 
-fn bad_used<'a>(last: &'a [u8; 8], log: &'a [u8; 128], n: u8) -> bool
+fn bad_used<'a>(last: &'a [u8; Frame::LANES], log: &'a [u8; PLACES], n: u8) -> bool
     ensures { λ r. ⌜ r ≡ anyBelow (badUsedIn (now (last .entry)) (now (log .entry))) n ⌝ }
 {
     let mut bad = false;
-    let mut marks: [u8; 128] = [0; 128];
+    let mut marks: [u8; PLACES] = [0; PLACES];
     for k in 0..n {
         let place = cells::byte_at(log, k as usize);
         let mark = cells::byte_at(&marks, place as usize);
-        bad = bad | (!(mark == 0) | ((127 < place) | !taken(last, place)));
+        bad = bad | (!(mark == 0) | ((Post::PLACES <= place) | !taken(last, place)));
         cells::put_byte_at(&mut marks, place as usize, 1);
     }
     bad
 }
 
 // Whether the order at a place is taken.
-fn taken(last: &[u8; 8], place: u8) -> bool
+fn taken(last: &[u8; Frame::LANES], place: u8) -> bool
     ensures { λ r. ⌜ r ≡ takenIn (now (last .entry)) place ⌝ }
 {
-    let serial = cells::last_taken(last, place / 16);
-    place % 16 < serial.0
+    let serial = cells::last_taken(last, place / Serial::LAST);
+    place % Serial::LAST < serial.0
 }
 
-fn bad_unused(log: &[u8; 128], n: u8) -> bool
+fn bad_unused(log: &[u8; PLACES], n: u8) -> bool
     requires { ⌜ n ≤ 128 ⌝ }
     ensures { λ r. ⌜ r ≡ anyBelow (λ (k : ℕ). badUnusedIn (now (log .entry)) (n + k)) (128 - n) ⌝ }
 {
     let mut bad = false;
     let mut k = n as usize;
-    while k < 128 {
+    while k < PLACES {
         bad = bad | !(cells::byte_at(log, k) == 0);
         k = k + 1;
     }

@@ -29,7 +29,7 @@ order-frame p word z = rw z
 -- and can be sent
 pub order-sendable : (p : Post) (word : ℕ) → word < 65536 → orderRefusal p ≡ 0 → Shaped p → Valid p → Sendable (orderStep p word .frame)
 order-sendable p word b z s v =
-    let room = can-rise (p .lane) (p .posts) (p .sources) (p .serial .0) (p .clock .0) z in
+    let room = can-rise p z in
     rw (order-frame p word z)
     (record {
       good = order-accepted (ownTaken p word) (p .lane) (p .serial .0 + 1) (p .clock .0 + 1) word

@@ -13,7 +13,7 @@ use Rattle.cells.specs.Tables.{orderPlace}
 use Rattle.post.specs.declared.Post.{Post}
 use Rattle.post.specs.Record.{isPost, isSource, lastOf}
 use Rattle.deliver.specs.Delivery.{stampAt}
-use Rattle.steps.specs.Refusals.{notInYard, orderRefusal, isOrder, isNext, clockPasses, ownBroadcast, hasStamp, strangeEntries, strange, notAbove, beyondOwn, hearRefusalBy, hearRefusal}
+use Rattle.steps.specs.Refusals.{notInYard, orderRefusal, isOrder, isNext, clockPasses, ownBroadcast, hasStamp, strangeEntries, strange, lastStamp, notAbove, beyondOwn, hearRefusal}
 use Rattle.steps.proofs.Passed.{order-passed, hear-passed}
 use Rattle.laws.proofs.TestLaws.{and-parts, and-made, and-second, and-fails, or-parts, or-made, none-each, each-none, goes-on}
 
@@ -29,7 +29,7 @@ pub record Orderable (p : Post) : Type 0 where
 -- an order that is not refused passes each rule
 pub orderable : (p : Post) → orderRefusal p ≡ 0 → Orderable p
 orderable p z =
-    let a = order-passed (p .lane) (p .posts) (p .sources) (p .serial .0) (p .clock .0) z in
+    let a = order-passed p z in
     record {
       here = not-false (isPost p (p .lane)) (a .0);
       source = not-false (isSource p (p .lane)) (a .1);
@@ -38,10 +38,6 @@ orderable p z =
     }
 
 -- ---- a hearing
-
--- the stamp of the last order taken from the frame's lane
-abbrev pub lastStamp : Post → Frame → ℕ
-lastStamp p f = stampAt p (orderPlace (f .lane) (lastOf p (f .lane)))
 
 -- the frame's order is the next of its lane
 pub next-is : (f : Frame) (last : ℕ) → isNext f last ≡ true → (f .kind ≡ 1) × (f .serial .0 ≡ last + 1)
@@ -78,7 +74,7 @@ unfolding strangeEntries
 hearable p f z =
     let last : ℕ = lastOf p (f .lane) in
     let own : Entry = entryOf f (p .lane) in
-    let a = hear-passed (p .lane) (p .posts) (p .sources) (p .serial .0) (p .clock .0) last (lastStamp p f) f z in
+    let a = hear-passed p f z in
     let late = and-second (isNext f last && isSource p (p .lane)) (leb 65535 (max (p .clock .0) (f .stamp .0))) (a .1) in
     let odd = or-parts (not (isPost p (f .sender)) || (isOrder f && not (isSource p (f .lane)))) (strangeEntries (p .sources) f) (a .3) in
     let known = or-parts (not (isPost p (f .sender))) (isOrder f && not (isSource p (f .lane))) (odd .0) in
@@ -108,13 +104,13 @@ hearable p f z =
 
 -- and the other way round
 pub hear-not-refused : (p : Post) (f : Frame) → Hearable p f → hearRefusal p f ≡ 0
-unfolding hearRefusalBy strangeEntries
+unfolding hearRefusal strangeEntries
 hear-not-refused p f h =
     goes-on (notInYard (p .posts) (p .lane)) 21 _ (ap not (h .here))
-    (goes-on (clockPasses (p .lane) (p .sources) (p .clock .0) last f) 24 _ late
-    (goes-on (ownBroadcast (p .lane) f) 26 _ (ne-eqb (f .sender) (p .lane) (h .other))
-    (goes-on (strange (p .posts) (p .sources) f) 28 _ odd
-    (goes-on (notAbove last (lastStamp p f) f) 29 _ low (goes-on (beyondOwn (p .lane) (p .serial .0) (p .clock .0) f) 30 0 mine refl)))))
+    (goes-on (clockPasses p f) 24 _ late
+    (goes-on (ownBroadcast p f) 26 _ (ne-eqb (f .sender) (p .lane) (h .other))
+    (goes-on (strange p f) 28 _ odd
+    (goes-on (notAbove p f) 29 _ low (goes-on (beyondOwn p f) 30 0 mine refl)))))
   where
     last : ℕ
     last = lastOf p (f .lane)
@@ -122,13 +118,13 @@ hear-not-refused p f h =
     own : Entry
     own = entryOf f (p .lane)
 
-    late : clockPasses (p .lane) (p .sources) (p .clock .0) last f ≡ false
+    late : clockPasses p f ≡ false
     late =
         and-fails (isNext f last && isSource p (p .lane)) (leb 65535 (max (p .clock .0) (f .stamp .0)))
         (λ t. let b = and-parts (isNext f last) (isSource p (p .lane)) t in
         lt-leb 65535 (max (p .clock .0) (f .stamp .0)) (h .clock (b .0) (b .1)))
 
-    odd : strange (p .posts) (p .sources) f ≡ false
+    odd : strange p f ≡ false
     odd =
         or-made (not (isPost p (f .sender)) || (isOrder f && not (isSource p (f .lane)))) (strangeEntries (p .sources) f)
         (or-made (not (isPost p (f .sender))) (isOrder f && not (isSource p (f .lane))) (ap not (h .sender))
@@ -136,13 +132,13 @@ hear-not-refused p f h =
         (each-none (λ (i : ℕ). hasStamp (entryOf f i) && not (isSource p i)) 8
         (λ i l. and-fails (hasStamp (entryOf f i)) (not (isSource p i)) (λ t. ap not (h .entries i l (there-stamp (entryOf f i) t)))))
 
-    low : notAbove last (lastStamp p f) f ≡ false
+    low : notAbove p f ≡ false
     low =
         and-fails (isNext f last && ltb 0 last) (leb (f .stamp .0) (lastStamp p f))
         (λ t. let b = and-parts (isNext f last) (ltb 0 last) t in
         lt-leb (f .stamp .0) (lastStamp p f) (h .above (b .0) (ltb-true 0 last (b .1))))
 
-    mine : beyondOwn (p .lane) (p .serial .0) (p .clock .0) f ≡ false
+    mine : beyondOwn p f ≡ false
     mine =
         or-made (isOrder f && eqb (f .lane) (p .lane) && ltb (p .serial .0) (f .serial .0))
         (hasStamp own && (ltb (p .serial .0) (own .serial .0) || ltb (p .clock .0) (own .stamp .0)))

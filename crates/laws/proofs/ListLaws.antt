@@ -1,6 +1,6 @@
 -- Lists: members, nothing twice, rising, beginnings, and how long a list without repetition can be. Assumes nothing.
 use mathlib.Core.Path.{_≡_, refl, sym, ap, _∙_}
-use mathlib.Core.List.{List, [], _∷_, _++_, map, append-nil, append-assoc}
+use mathlib.Core.List.{List, [], _∷_, _++_, append-nil, append-assoc}
 use mathlib.Core.Logic.{_⊎_, inl, inr, _≢_}
 use Prim.Native.Nat.{ℕ, zero, suc, _+_, _≤_, _<_}
 use native.Mathlib.Omega.{arith}
@@ -90,36 +90,10 @@ module _ {A : Type 0} where
     at-no-repeat d l (λ j k a b. h (suc j) (suc k) (omega arith) (omega arith)),
   )
 
--- ---- lists of numbers
-
--- members of a list, each changed
-pub mem-map : (f : ℕ → ℕ) (x : ℕ) (l : List ℕ) → Mem x l → Mem (f x) (map f l)
-mem-map f x [] m = absurd m
-mem-map f x (y ∷ l) (inl e) = inl (ap f e)
-mem-map f x (y ∷ l) (inr m) = inr (mem-map f x l m)
-
--- a member of the changed list comes from a member
-pub map-mem : (f : ℕ → ℕ) (y : ℕ) (l : List ℕ) → Mem y (map f l) → (x : ℕ) × Mem x l × (y ≡ f x)
-map-mem f y [] m = absurd m
-map-mem f y (x ∷ l) (inl e) = (x, inl refl, e)
-map-mem f y (x ∷ l) (inr m) = let r = map-mem f y l m in (r .0, inr (r .1), r .2)
-
--- the numbers rise strictly themselves
-abbrev pub RisingNumbers : List ℕ → Type 0
-RisingNumbers l = RisingBy (λ (x : ℕ). x) l
-
--- where keys rise strictly, nothing stands twice
-pub rising-once : (key : ℕ → ℕ) (l : List ℕ) → RisingBy key l → NoRepeat l
-rising-once key [] r = tt
-rising-once key (x ∷ l) r = (λ m. omega (arith, r .0 x m), rising-once key l (r .1))
-
--- rising numbers that are the keys of what they are changed to
-pub rising-map : (key f : ℕ → ℕ) (l : List ℕ) → RisingNumbers l → ((x : ℕ) → Mem x l → x ≡ key (f x)) → RisingBy key (map f l)
-rising-map key f [] r h = tt
-rising-map key f (x ∷ l) r h = (λ y m. above y (map-mem f y l m), rising-map key f l (r .1) (λ z m. h z (inr m)))
-  where
-    above : (y : ℕ) → ((z : ℕ) × Mem z l × (y ≡ f z)) → key (f x) < key y
-    above y w = rw (w .2) (omega (arith, r .0 (w .0) (w .1), h x (inl refl), h (w .0) (inr (w .1))))
+  -- where keys rise strictly, nothing stands twice
+  pub rising-once : (key : A → ℕ) (l : List A) → RisingBy key l → NoRepeat l
+  rising-once key [] r = tt
+  rising-once key (x ∷ l) r = (λ m. omega (arith, r .0 x m), rising-once key l (r .1))
 
 -- ---- numbers written one after another into a list
 

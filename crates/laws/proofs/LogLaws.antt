@@ -3,20 +3,22 @@ use mathlib.Core.Path.{_≡_, refl, sym, ap, _∙_}
 use mathlib.Core.List.{List, _∷_, _++_}
 use mathlib.Core.Logic.{_⊎_, inl, inr, _≢_}
 use mathlib.Core.Bool.{Bool, true, false, cond, not, _&&_, _||_}
-use Prim.Native.Nat.{ℕ, zero, suc, _+_, _%_, _<_, _≤_, min}
+use Prim.Native.Nat.{ℕ, zero, suc, _+_, _<_, _≤_, min}
 use native.Mathlib.Omega.{arith}
 use lib.Dec.{leb, eqb}
 use lib.ListN.{length, getD, take, drop, length-append}
 use lib.Seq.{sets, sets-eq, length-take-le, take-at, getD-take, length-sets}
 use borrow.Author.Tests.{leb-true, le-leb, eqb-true, eq-eqb, not-true}
-use Rattle.cells.specs.Tables.{stampUnder, keyOf}
+use Rattle.cells.specs.Tables.{stampUnder}
 use Rattle.post.specs.declared.Post.{Post}
 use Rattle.post.specs.Record.{isSource, isDest, lastOf}
-use Rattle.deliver.specs.Delivery.{allBelow, isTaken, isLogged, stampAt, agrees, isDue, dueBelow, sort, duePlaces, dueLog, delivered}
-pub use Rattle.laws.specs.LogAfter.{logOf, keyAt}
+use Rattle.deliver.specs.Delivery.{allBelow, isTaken, isLogged, stampAt, agrees, isDue, dueBelow, comesBefore, duePlaces, dueLog, delivered}
+use Rattle.deliver.specs.Keys.{keyAt}
+use Rattle.deliver.proofs.Keys.{before-key}
+pub use Rattle.laws.specs.LogAfter.{logOf}
 use Rattle.laws.proofs.TestLaws.{same-or-not, not-both, and-parts, and-made, or-second, some-which, which-some, all-each, each-all}
-use Rattle.laws.proofs.ListLaws.{Mem, NoRepeat, RisingBy, RisingNumbers, mem-at, mem-which, mem-map, map-mem, rising-once, rising-map, sets-past}
-use Rattle.laws.proofs.SortLaws.{sort-mem, mem-sort, sort-rising}
+use Rattle.laws.proofs.ListLaws.{Mem, NoRepeat, RisingBy, mem-at, mem-which, rising-once, sets-past}
+use Rattle.laws.proofs.SortLaws.{sort-mem, mem-sort, ApartBy, sort-rises}
 
 -- ---- the log by index
 
@@ -77,87 +79,63 @@ due-is p place d =
     (λ i l. agrees-made (isSource p i) (leb (stampAt p place) (stampUnder (p .table) i (lastOf p i)))
     (λ s. le-leb (stampAt p place) (stampUnder (p .table) i (lastOf p i)) (d .agreed i l s))))
 
--- ---- the keys of the due orders
+-- ---- the places of the due orders
 
--- a key tells the place
-pub key-place : (stamp place : ℕ) → place < 128 → keyOf stamp place % 128 ≡ place
-key-place stamp place h = omega arith
-
--- the keys are those of the due orders
-pub due-key : (p : Post) (n key : ℕ) → Mem key (dueBelow p n) → (place : ℕ) × (place < n) × (isDue p place ≡ true) × (key ≡ keyAt p place)
+-- they are due
+due-below : (p : Post) (n place : ℕ) → Mem place (dueBelow p n) → (place < n) × (isDue p place ≡ true)
 unfolding dueBelow
-due-key p zero key m = absurd m
-due-key p (suc n) key m = go (isDue p n) refl m (due-key p n key)
+due-below p zero place m = absurd m
+due-below p (suc n) place m = go (isDue p n) refl m (due-below p n place)
   where
-    up : ((place : ℕ) × (place < n) × (isDue p place ≡ true) × (key ≡ keyAt p place))
-        → (place : ℕ) × (place < suc n) × (isDue p place ≡ true) × (key ≡ keyAt p place)
-    up r = (r .0, omega (arith, r .1), r .2, r .3)
+    up : (place < n) × (isDue p place ≡ true) → (place < suc n) × (isDue p place ≡ true)
+    up r = (omega (arith, r .0), r .1)
 
-    go : (b : Bool) → isDue p n ≡ b → Mem key (cond b (keyAt p n ∷ dueBelow p n) (dueBelow p n))
-        → (Mem key (dueBelow p n) → (place : ℕ) × (place < n) × (isDue p place ≡ true) × (key ≡ keyAt p place))
-        → (place : ℕ) × (place < suc n) × (isDue p place ≡ true) × (key ≡ keyAt p place)
-    go true e (inl k) ih = (n, omega arith, e, k)
+    go : (b : Bool) → isDue p n ≡ b → Mem place (cond b (n ∷ dueBelow p n) (dueBelow p n))
+        → (Mem place (dueBelow p n) → (place < n) × (isDue p place ≡ true)) → (place < suc n) × (isDue p place ≡ true)
+    go true e (inl k) ih = (omega arith, rw k e)
     go true e (inr k) ih = up (ih k)
     go false e k ih = up (ih k)
 
--- the key of each due order is among the keys
-pub key-due : (p : Post) (n place : ℕ) → place < n → isDue p place ≡ true → Mem (keyAt p place) (dueBelow p n)
+-- and all that are due
+below-due : (p : Post) (n place : ℕ) → place < n → isDue p place ≡ true → Mem place (dueBelow p n)
 unfolding dueBelow
-key-due p zero place h d = absurd (omega arith)
-key-due p (suc n) place h d = go (isDue p n) refl (same-or-not place n) (λ l. key-due p n place l d)
+below-due p zero place h d = absurd (omega arith)
+below-due p (suc n) place h d = go (isDue p n) refl (same-or-not place n) (λ l. below-due p n place l d)
   where
-    go : (b : Bool) → isDue p n ≡ b → (place ≡ n) ⊎ (place ≢ n) → (place < n → Mem (keyAt p place) (dueBelow p n))
-        → Mem (keyAt p place) (cond b (keyAt p n ∷ dueBelow p n) (dueBelow p n))
-    go true e (inl q) ih = inl (ap (keyAt p) q)
+    go : (b : Bool) → isDue p n ≡ b → (place ≡ n) ⊎ (place ≢ n) → (place < n → Mem place (dueBelow p n))
+        → Mem place (cond b (n ∷ dueBelow p n) (dueBelow p n))
+    go true e (inl q) ih = inl q
     go true e (inr q) ih = inr (ih (omega arith))
     go false e (inl q) ih = absurd (not-both (isDue p n) (rw q at d) e)
     go false e (inr q) ih = ih (omega arith)
 
--- all keys differ
-pub due-keys-once : (p : Post) (n : ℕ) → n ≤ 128 → NoRepeat (dueBelow p n)
+-- their keys differ
+due-apart : (p : Post) (n : ℕ) → n ≤ 128 → ApartBy (keyAt p) (dueBelow p n)
 unfolding dueBelow
-due-keys-once p zero h = tt
-due-keys-once p (suc n) h = go (isDue p n) (due-keys-once p n (omega arith))
+due-apart p zero h = tt
+due-apart p (suc n) h = go (isDue p n) (due-apart p n (omega arith))
   where
-    other : Mem (keyAt p n) (dueBelow p n) → ⊥
-    other m = let r = due-key p n (keyAt p n) m in omega (arith, r .1, r .3)
-
-    go : (b : Bool) → NoRepeat (dueBelow p n) → NoRepeat (cond b (keyAt p n ∷ dueBelow p n) (dueBelow p n))
-    go true ih = (other, ih)
+    go : (b : Bool) → ApartBy (keyAt p) (dueBelow p n) → ApartBy (keyAt p) (cond b (n ∷ dueBelow p n) (dueBelow p n))
+    go true ih = (λ y m e. omega (arith, due-below p n y m .0), ih)
     go false ih = ih
 
--- sorted, they rise strictly
-pub due-keys-rise : (p : Post) → RisingNumbers (sort (dueBelow p 128))
-due-keys-rise p = sort-rising (dueBelow p 128) (due-keys-once p 128 (omega arith))
-
--- ---- the places of the due orders
-
--- each of them is due
+-- in the order of delivery each is due
 pub places-due : (p : Post) (place : ℕ) → Mem place (duePlaces p) → (place < 128) × (isDue p place ≡ true)
 unfolding duePlaces
-places-due p place m =
-    let a = map-mem (λ (key : ℕ). key % 128) place (sort (dueBelow p 128)) m in
-    let b = due-key p 128 (a .0) (sort-mem (a .0) (dueBelow p 128) (a .1)) in
-    let e : place ≡ b .0 = omega (arith, a .2, b .3, b .1) in
-    (omega (arith, b .1), rw e (b .2))
+places-due p place m = due-below p 128 place (sort-mem (comesBefore p) place (dueBelow p 128) m)
 
 -- each that is due is one of them
 pub due-places : (p : Post) (place : ℕ) → place < 128 → isDue p place ≡ true → Mem place (duePlaces p)
 unfolding duePlaces
-due-places p place h d =
-    rw (key-place (stampAt p place) place h) at
-    (mem-map (λ (key : ℕ). key % 128) (keyAt p place) (sort (dueBelow p 128)) (mem-sort (keyAt p place) (dueBelow p 128) (key-due p 128 place h d)))
+due-places p place h d = mem-sort (comesBefore p) place (dueBelow p 128) (below-due p 128 place h d)
 
 -- "lowest stamp first, equal stamps by lower lane": their keys rise strictly
 pub places-rise : (p : Post) → RisingBy (keyAt p) (duePlaces p)
 unfolding duePlaces
-places-rise p = rising-map (keyAt p) (λ (key : ℕ). key % 128) (sort (dueBelow p 128)) (due-keys-rise p) same
-  where
-    same : (key : ℕ) → Mem key (sort (dueBelow p 128)) → key ≡ keyAt p (key % 128)
-    same key m =
-        let b = due-key p 128 key (sort-mem key (dueBelow p 128) m) in
-        let e : key % 128 ≡ b .0 = omega (arith, b .1, b .3) in
-        rw e (b .3)
+places-rise p =
+    sort-rises (comesBefore p) (keyAt p) (dueBelow p 128)
+    (λ x y m n. before-key p x y (due-below p 128 x m .0) (due-below p 128 y n .0))
+    (due-apart p 128 (omega arith))
 
 -- none stands twice
 pub places-once : (p : Post) → NoRepeat (duePlaces p)

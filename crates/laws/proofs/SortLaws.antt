@@ -1,141 +1,92 @@
--- Sorting keys: the result is sorted, has each number as often as before, and rises strictly where nothing stood twice. Assumes nothing.
-use mathlib.Core.Path.{_≡_, refl}
+-- Sorting: the members stay, and where no two keys are equal they rise strictly. Assumes nothing.
+use mathlib.Core.Path.{_≡_, refl, sym, _∙_}
 use mathlib.Core.List.{List, [], _∷_}
 use mathlib.Core.Logic.{_⊎_, inl, inr, _≢_}
-use mathlib.Core.Bool.{cond}
-use Prim.Native.Nat.{ℕ, _+_, _<_, _≤_, max, min}
+use mathlib.Core.Bool.{Bool, true, false, cond}
+use Prim.Native.Nat.{ℕ, _<_, _≤_}
 use native.Mathlib.Omega.{arith}
-use native.Mathlib.Decide.{decLt}
-use lib.Dec.{eqb}
-use borrow.Author.Tests.{eq-eqb, ne-eqb}
-use Rattle.deliver.specs.Delivery.{insertKey, sort}
-use Rattle.laws.proofs.TestLaws.{same-or-not}
-use Rattle.laws.proofs.ListLaws.{Mem, NoRepeat, RisingNumbers}
+use lib.Dec.{ltb}
+use borrow.Author.Tests.{ltb-true, ltb-false}
+use Rattle.deliver.specs.Delivery.{insertBy, sortBy}
+use Rattle.laws.proofs.ListLaws.{Mem, RisingBy}
 
--- m is below none of a list
-abbrev pub Low : ℕ → List ℕ → Type 0
-Low m [] = 0 ≤ m
-Low m (y ∷ ys) = (m ≤ y) × Low m ys
+module _ {A : Type 0} (before : A → A → Bool) where
+  -- what is inserted, and the members, are members
+  mem-inserted : (z x : A) (l : List A) → (z ≡ x) ⊎ Mem z l → Mem z (insertBy before x l)
+  unfolding insertBy
+  mem-inserted z x [] h = h
+  mem-inserted z x (y ∷ l) h = go (before x y) h (mem-inserted z x l)
+    where
+      go : (b : Bool) → (z ≡ x) ⊎ Mem z (y ∷ l) → ((z ≡ x) ⊎ Mem z l → Mem z (insertBy before x l))
+          → Mem z (cond b (x ∷ y ∷ l) (y ∷ insertBy before x l))
+      go true k ih = k
+      go false (inl e) ih = inr (ih (inl e))
+      go false (inr (inl e)) ih = inl e
+      go false (inr (inr m)) ih = inr (ih (inr m))
 
--- each number is at most those that follow
-abbrev pub Sorted : List ℕ → Type 0
-Sorted [] = 0 ≤ 0
-Sorted (x ∷ xs) = Low x xs × Sorted xs
+  -- and nothing else is
+  inserted-mem : (z x : A) (l : List A) → Mem z (insertBy before x l) → (z ≡ x) ⊎ Mem z l
+  unfolding insertBy
+  inserted-mem z x [] h = h
+  inserted-mem z x (y ∷ l) h = go (before x y) h (inserted-mem z x l)
+    where
+      up : (z ≡ x) ⊎ Mem z l → (z ≡ x) ⊎ Mem z (y ∷ l)
+      up (inl e) = inl e
+      up (inr m) = inr (inr m)
 
--- what is below a low number is low
-low-more : (m n : ℕ) (l : List ℕ) → m ≤ n → Low n l → Low m l
-low-more m n [] h k = omega arith
-low-more m n (y ∷ ys) h k = (omega (arith, k .0), low-more m n ys h (k .1))
+      go : (b : Bool) → Mem z (cond b (x ∷ y ∷ l) (y ∷ insertBy before x l)) → (Mem z (insertBy before x l) → (z ≡ x) ⊎ Mem z l)
+          → (z ≡ x) ⊎ Mem z (y ∷ l)
+      go true k ih = k
+      go false (inl e) ih = inr (inl e)
+      go false (inr m) ih = up (ih m)
 
--- a low number is low after an insertion of one not below it
-low-insert : (m z : ℕ) (l : List ℕ) → m ≤ z → Low m l → Low m (insertKey z l)
-unfolding insertKey
-low-insert m z [] h k = (h, k)
-low-insert m z (y ∷ ys) h k = (omega (arith, k .0), low-insert m (max y z) ys (omega arith) (k .1))
+  -- sorting loses no member
+  pub mem-sort : (z : A) (l : List A) → Mem z l → Mem z (sortBy before l)
+  unfolding sortBy
+  mem-sort z [] h = h
+  mem-sort z (x ∷ l) (inl e) = mem-inserted z x (sortBy before l) (inl e)
+  mem-sort z (x ∷ l) (inr m) = mem-inserted z x (sortBy before l) (inr (mem-sort z l m))
 
--- an insertion keeps a list sorted
-insert-sorted : (x : ℕ) (l : List ℕ) → Sorted l → Sorted (insertKey x l)
-unfolding insertKey
-insert-sorted x [] s = (omega arith, s)
-insert-sorted x (y ∷ ys) s =
-    (low-insert (min y x) (max y x) ys (omega arith) (low-more (min y x) y ys (omega arith) (s .0)), insert-sorted (max y x) ys (s .1))
+  -- and adds none
+  pub sort-mem : (z : A) (l : List A) → Mem z (sortBy before l) → Mem z l
+  unfolding sortBy
+  sort-mem z [] h = h
+  sort-mem z (x ∷ l) h = go (inserted-mem z x (sortBy before l) h) (sort-mem z l)
+    where
+      go : (z ≡ x) ⊎ Mem z (sortBy before l) → (Mem z (sortBy before l) → Mem z l) → (z ≡ x) ⊎ Mem z l
+      go (inl e) ih = inl e
+      go (inr m) ih = inr (ih m)
 
--- the result is sorted
-pub sort-sorted : (l : List ℕ) → Sorted (sort l)
-unfolding sort
-sort-sorted [] = omega arith
-sort-sorted (x ∷ xs) = insert-sorted x (sort xs) (sort-sorted xs)
+-- no two keys are equal
+abbrev pub ApartBy : {A : Type 0} → (A → ℕ) → List A → Type 0
+ApartBy key [] = Unit {0}
+ApartBy key (x ∷ l) = ((y : _) → Mem y l → key x ≢ key y) × ApartBy key l
 
--- how often z stands in a list
-abbrev pub times : ℕ → List ℕ → ℕ
-times z [] = 0
-times z (y ∷ ys) = cond (eqb z y) 1 0 + times z ys
+module _ {A : Type 0} (before : A → A → Bool) (key : A → ℕ) where
+  -- a key like none leaves the list rising
+  inserted-rises : (x : A) (l : List A) → RisingBy key l → ((y : A) → Mem y l → before x y ≡ ltb (key x) (key y))
+      → ((y : A) → Mem y l → key x ≢ key y) → RisingBy key (insertBy before x l)
+  unfolding insertBy
+  inserted-rises x [] r h n = (λ y m. absurd m, tt)
+  inserted-rises x (y ∷ l) r h n = go (before x y) refl (inserted-rises x l (r .1) (λ z m. h z (inr m)) (λ z m. n z (inr m)))
+    where
+      above : (z : A) → key x < key y → Mem z (y ∷ l) → key x < key z
+      above z k (inl e) = rw e k
+      above z k (inr m) = omega (arith, r .0 z m)
 
--- the smaller and the larger of two numbers are the two
-two : (z x y : ℕ) → Dec (y < x) → cond (eqb z (min y x)) 1 0 + cond (eqb z (max y x)) 1 0 ≡ cond (eqb z x) 1 0 + cond (eqb z y) 1 0
-two z x y (yes h) =
-    let a : min y x ≡ y = omega arith in
-    let b : max y x ≡ x = omega arith in
-    rw (a, b) (omega arith)
-two z x y (no h) =
-    let a : min y x ≡ x = omega arith in
-    let b : max y x ≡ y = omega arith in
-    rw (a, b)
+      below : (z : A) → key y ≤ key x → (z ≡ x) ⊎ Mem z l → key y < key z
+      below z k (inl e) = rw e (omega (arith, n y (inl refl)))
+      below z k (inr m) = r .0 z m
 
--- an insertion adds the number once
-insert-times : (z x : ℕ) (l : List ℕ) → times z (insertKey x l) ≡ times z (x ∷ l)
-unfolding insertKey
-insert-times z x [] = refl
-insert-times z x (y ∷ ys) = omega (arith, insert-times z (max y x) ys, two z x y (decLt y x))
+      go : (b : Bool) → before x y ≡ b → RisingBy key (insertBy before x l) → RisingBy key (cond b (x ∷ y ∷ l) (y ∷ insertBy before x l))
+      go true e ih = (λ z m. above z (ltb-true (key x) (key y) (sym (h y (inl refl)) ∙ e)) m, r)
+      go false e ih = (λ z m. below z (ltb-false (key x) (key y) (sym (h y (inl refl)) ∙ e)) (inserted-mem before z x l m), ih)
 
--- it has each number as often as before
-pub sort-times : (z : ℕ) (l : List ℕ) → times z (sort l) ≡ times z l
-unfolding sort
-sort-times z [] = refl
-sort-times z (x ∷ xs) = omega (arith, insert-times z x (sort xs), sort-times z xs)
-
--- ---- what is counted is a member, and what stands once is not repeated
-
--- a member is counted
-pub mem-times : (z : ℕ) (l : List ℕ) → Mem z l → 0 < times z l
-mem-times z [] m = absurd m
-mem-times z (y ∷ l) (inl e) = rw (eq-eqb z y e) (omega arith)
-mem-times z (y ∷ l) (inr m) = omega (arith, mem-times z l m)
-
--- what is counted is a member
-pub times-mem : (z : ℕ) (l : List ℕ) → 0 < times z l → Mem z l
-times-mem z [] h = omega arith
-times-mem z (y ∷ l) h = go (same-or-not z y) (times-mem z l)
-  where
-    go : (z ≡ y) ⊎ (z ≢ y) → (0 < times z l → Mem z l) → Mem z (y ∷ l)
-    go (inl e) ih = inl e
-    go (inr e) ih = inr (ih (let k = rw (ne-eqb z y e) at h in omega arith))
-
--- where nothing stands twice, each number is counted once at most
-pub once-times : (z : ℕ) (l : List ℕ) → NoRepeat l → times z l ≤ 1
-once-times z [] n = omega arith
-once-times z (y ∷ l) n = go (same-or-not z y) (once-times z l (n .1)) (same-or-not (times z l) 0)
-  where
-    go : (z ≡ y) ⊎ (z ≢ y) → times z l ≤ 1 → (times z l ≡ 0) ⊎ (times z l ≢ 0) → cond (eqb z y) 1 0 + times z l ≤ 1
-    go (inl e) ih (inl t) = rw (eq-eqb z y e) (omega arith)
-    go (inl e) ih (inr t) = absurd (n .0 (rw e at (times-mem z l (omega arith))))
-    go (inr e) ih t = rw (ne-eqb z y e) (omega arith)
-
--- and the other way round
-pub times-once : (l : List ℕ) → ((z : ℕ) → times z l ≤ 1) → NoRepeat l
-times-once [] h = tt
-times-once (y ∷ l) h =
-    (λ m. let k = rw (eq-eqb y y refl) at (h y) in omega (arith, mem-times y l m), times-once l (λ z. omega (arith, h z)))
-
--- ---- so for the sorted list
-
--- sorting adds no member
-pub sort-mem : (z : ℕ) (l : List ℕ) → Mem z (sort l) → Mem z l
-sort-mem z l m = times-mem z l (omega (arith, mem-times z (sort l) m, sort-times z l))
-
--- sorting loses no member
-pub mem-sort : (z : ℕ) (l : List ℕ) → Mem z l → Mem z (sort l)
-mem-sort z l m = times-mem z (sort l) (omega (arith, mem-times z l m, sort-times z l))
-
--- sorting repeats nothing
-pub sort-once : (l : List ℕ) → NoRepeat l → NoRepeat (sort l)
-sort-once l n = times-once (sort l) (λ z. omega (arith, sort-times z l, once-times z l n))
-
--- a low number is at most each member
-low-mem : (m z : ℕ) (l : List ℕ) → Low m l → Mem z l → m ≤ z
-low-mem m z [] h k = absurd k
-low-mem m z (y ∷ l) h (inl e) = omega (arith, h .0)
-low-mem m z (y ∷ l) h (inr k) = low-mem m z l (h .1) k
-
--- a sorted list without repetition rises strictly
-sorted-rising : (l : List ℕ) → Sorted l → NoRepeat l → RisingNumbers l
-sorted-rising [] s n = tt
-sorted-rising (x ∷ l) s n =
-    (λ y m. omega (arith, low-mem x y l (s .0) m, differ y m), sorted-rising l (s .1) (n .1))
-  where
-    differ : (y : ℕ) → Mem y l → x ≢ y
-    differ y m e = n .0 (rw (← e) at m)
-
--- where nothing stood twice the sorted list rises strictly
-pub sort-rising : (l : List ℕ) → NoRepeat l → RisingNumbers (sort l)
-sort-rising l n = sorted-rising (sort l) (sort-sorted l) (sort-once l n)
+  -- sorted by a test that compares keys, they rise
+  pub sort-rises : (l : List A) → ((x y : A) → Mem x l → Mem y l → before x y ≡ ltb (key x) (key y)) → ApartBy key l
+      → RisingBy key (sortBy before l)
+  unfolding sortBy
+  sort-rises [] h a = tt
+  sort-rises (x ∷ l) h a =
+      inserted-rises x (sortBy before l) (sort-rises l (λ y z m n. h y z (inr m) (inr n)) (a .1))
+      (λ y m. h x y (inl refl) (inr (sort-mem before y l m))) (λ y m. a .0 y (sort-mem before y l m))

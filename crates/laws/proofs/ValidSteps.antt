@@ -33,7 +33,7 @@ use Rattle.laws.proofs.Hearable.{next-is, hearable, takes-other}
 pub ordered-shaped : (p : Post) (word : ℕ) → orderRefusal p ≡ 0 → word < 65536 → Shaped p → Shaped (ownTaken p word)
 unfolding ownTaken ticked
 ordered-shaped p word z b s =
-    let room = can-rise (p .lane) (p .posts) (p .sources) (p .serial .0) (p .clock .0) z in
+    let room = can-rise p z in
     let c : p .clock .0 + 1 < 65536 = omega (arith, room .0) in
     let table : List ℕ = withStamp (p .table) (p .lane) (p .serial .0 + 1) (p .clock .0 + 1) in
     kept-shaped (withClock p (p .clock .0 + 1) (p .serial .0 + 1) table) (p .lane) (p .serial .0 + 1) (p .clock .0 + 1) word c b
@@ -46,7 +46,7 @@ ordered-shaped p word z b s =
 pub ordered-valid : (p : Post) (word : ℕ) → orderRefusal p ≡ 0 → Shaped p → Valid p → Valid (ownTaken p word)
 unfolding ownTaken ticked
 ordered-valid p word z s v =
-    let room = can-rise (p .lane) (p .posts) (p .sources) (p .serial .0) (p .clock .0) z in
+    let room = can-rise p z in
     kept-valid p (p .clock .0 + 1) (p .serial .0 + 1) (withStamp (p .table) (p .lane) (p .serial .0 + 1) (p .clock .0 + 1)) (p .lane)
     (p .serial .0 + 1) (p .clock .0 + 1) word s v (v .lane) (omega (arith, v .own)) (omega (arith, room .1)) (omega arith)
     (omega (arith, room .1)) (λ e. refl) (λ n. absurd (n refl))

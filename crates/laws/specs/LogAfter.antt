@@ -5,28 +5,23 @@ use mathlib.Core.List.{List, [], _∷_, _++_}
 use Prim.Native.Nat.{ℕ, _<_}
 use lib.ListN.{take}
 use Rattle.frame.specs.declared.Frame.{Frame}
-use Rattle.cells.specs.Tables.{keyOf}
 use Rattle.post.specs.declared.Post.{Post}
 use Rattle.post.specs.Record.{isDest, lastOf}
 use Rattle.post.specs.Taking.{raisedPost, taken}
-use Rattle.deliver.specs.Delivery.{isTaken, stampAt, duePlaces}
+use Rattle.deliver.specs.Delivery.{isTaken, duePlaces}
 use Rattle.steps.specs.Refusals.{isNext}
 use Rattle.laws.specs.Lists.{Mem, Begins}
 
--- nothing stands in a list twice
 module _ {A : Type 0} where
+  -- nothing stands in a list twice
   abbrev pub NoRepeat : List A → Type 0
   NoRepeat [] = Unit {0}
   NoRepeat (x ∷ l) = (Mem x l → ⊥) × NoRepeat l
 
--- keys rise strictly along a list
-abbrev pub RisingBy : (ℕ → ℕ) → List ℕ → Type 0
-RisingBy key [] = Unit {0}
-RisingBy key (x ∷ l) = ((y : ℕ) → Mem y l → key x < key y) × RisingBy key l
-
--- "lowest stamp first, equal stamps by lower lane": the number by which the order at a place is delivered
-abbrev pub keyAt : Post → ℕ → ℕ
-keyAt p place = keyOf (stampAt p place) place
+  -- keys rise strictly along a list
+  abbrev pub RisingBy : (A → ℕ) → List A → Type 0
+  RisingBy key [] = Unit {0}
+  RisingBy key (x ∷ l) = ((y : A) → Mem y l → key x < key y) × RisingBy key l
 
 -- the places of the log in turn
 abbrev pub logOf : Post → List ℕ

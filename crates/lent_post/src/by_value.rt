@@ -43,9 +43,9 @@ pub(crate) fn order(p: Post, word: u16, buffer: &mut [u8]) -> Stepped
 pub(crate) fn hear(p: Post, frame: &[u8], buffer: &mut [u8]) -> Stepped
     ensures { λ r. ⌜ (r ≡ lentHear p (now (frame .entry)) (now (buffer .entry))) × (now (buffer .exit) ≡ hearBuffer p (now (frame .entry)) (now (buffer .entry))) ⌝ }
 {
-    let lentHear = single::hear(p, frame, buffer);
-    let answer = lentHear.answer;
-    let after = lentHear.post;
+    let heard = single::hear(p, frame, buffer);
+    let answer = heard.answer;
+    let after = heard.post;
     Stepped {
         answer: hear_told(answer),
         post: after,

@@ -7,84 +7,47 @@ use Prim.Native.Nat.{_≤_, _<_}
 use native.Mathlib.Omega.{arith}
 use lib.Dec.{ltb}
 use borrow.Author.Tests.{ltb-true, ltb-false}
-use Rattle.laws.proofs.ListLaws.{Mem, mem-right, mem-append, Begins}
+use Rattle.deliver.specs.Delivery.{insertBy, sortBy}
+use Rattle.laws.proofs.ListLaws.{Mem, mem-right, mem-append, RisingBy, Begins}
+use Rattle.laws.proofs.SortLaws.{mem-sort, sort-mem, ApartBy, sort-rises}
 use Rattle.roll.specs.Runs.{Order}
 use Rattle.roll.specs.Logs.{rank, insertOrder, inOrder, Rising}
 
 -- no two orders of the list rank alike
 abbrev pub Apart : List Order → Type 0
-Apart [] = Unit {0}
-Apart (x ∷ l) = ((y : Order) → Mem y l → rank x ≢ rank y) × Apart l
+Apart l = ApartBy rank l
 
 -- ---- what `inOrder` makes
 
--- an order inserted, and the members, are members
-pub mem-insert : (z x : Order) (l : List Order) → (z ≡ x) ⊎ Mem z l → Mem z (insertOrder x l)
-unfolding insertOrder
-mem-insert z x [] h = h
-mem-insert z x (y ∷ l) h = go (ltb (rank x) (rank y)) h (mem-insert z x l)
-  where
-    go : (b : Bool) → (z ≡ x) ⊎ Mem z (y ∷ l) → ((z ≡ x) ⊎ Mem z l → Mem z (insertOrder x l)) → Mem z (cond b (x ∷ y ∷ l) (y ∷ insertOrder x l))
-    go true k ih = k
-    go false (inl e) ih = inr (ih (inl e))
-    go false (inr (inl e)) ih = inl e
-    go false (inr (inr m)) ih = inr (ih (inr m))
+-- it sorts, by a test that compares ranks
+abbrev ranksLower : Order → Order → Bool
+ranksLower x y = ltb (rank x) (rank y)
 
--- and nothing else is
-pub insert-mem : (z x : Order) (l : List Order) → Mem z (insertOrder x l) → (z ≡ x) ⊎ Mem z l
-unfolding insertOrder
-insert-mem z x [] h = h
-insert-mem z x (y ∷ l) h = go (ltb (rank x) (rank y)) h (insert-mem z x l)
-  where
-    up : (z ≡ x) ⊎ Mem z l → (z ≡ x) ⊎ Mem z (y ∷ l)
-    up (inl e) = inl e
-    up (inr m) = inr (inr m)
+insert-is : (x : Order) (l : List Order) → insertOrder x l ≡ insertBy ranksLower x l
+unfolding insertOrder insertBy
+insert-is x [] = refl
+insert-is x (y ∷ l) = ap (λ (r : List Order). cond (ltb (rank x) (rank y)) (x ∷ y ∷ l) (y ∷ r)) (insert-is x l)
 
-    go : (b : Bool) → Mem z (cond b (x ∷ y ∷ l) (y ∷ insertOrder x l)) → (Mem z (insertOrder x l) → (z ≡ x) ⊎ Mem z l) → (z ≡ x) ⊎ Mem z (y ∷ l)
-    go true k ih = k
-    go false (inl e) ih = inr (inl e)
-    go false (inr m) ih = up (ih m)
-
--- an order that ranks like none leaves the list rising
-pub insert-rises : (x : Order) (l : List Order) → Rising l → ((y : Order) → Mem y l → rank x ≢ rank y) → Rising (insertOrder x l)
-unfolding insertOrder
-insert-rises x [] r n = (λ y m. absurd m, tt)
-insert-rises x (y ∷ l) r n = go (ltb (rank x) (rank y)) refl (insert-rises x l (r .1) (λ z m. n z (inr m)))
-  where
-    above : (z : Order) → rank x < rank y → Mem z (y ∷ l) → rank x < rank z
-    above z h (inl e) = rw e h
-    above z h (inr m) = omega (arith, r .0 z m)
-
-    below : (z : Order) → rank y ≤ rank x → (z ≡ x) ⊎ Mem z l → rank y < rank z
-    below z h (inl e) = rw e (omega (arith, n y (inl refl)))
-    below z h (inr m) = r .0 z m
-
-    go : (b : Bool) → ltb (rank x) (rank y) ≡ b → Rising (insertOrder x l) → Rising (cond b (x ∷ y ∷ l) (y ∷ insertOrder x l))
-    go true e ih = (λ z m. above z (ltb-true (rank x) (rank y) e) m, r)
-    go false e ih = (λ z m. below z (ltb-false (rank x) (rank y) e) (insert-mem z x l m), ih)
+in-order-is : (l : List Order) → inOrder l ≡ sortBy ranksLower l
+unfolding inOrder sortBy
+in-order-is [] = refl
+in-order-is (x ∷ l) = insert-is x (inOrder l) ∙ ap (insertBy ranksLower x) (in-order-is l)
 
 -- the members of a list are members of the list in order
 pub mem-in-order : (z : Order) (l : List Order) → Mem z l → Mem z (inOrder l)
-unfolding inOrder
-mem-in-order z [] h = h
-mem-in-order z (x ∷ l) (inl e) = mem-insert z x (inOrder l) (inl e)
-mem-in-order z (x ∷ l) (inr m) = mem-insert z x (inOrder l) (inr (mem-in-order z l m))
+mem-in-order z l m = rw (in-order-is l) (mem-sort ranksLower z l m)
 
 -- and nothing else is
 pub in-order-mem : (z : Order) (l : List Order) → Mem z (inOrder l) → Mem z l
-unfolding inOrder
-in-order-mem z [] h = h
-in-order-mem z (x ∷ l) h = go (insert-mem z x (inOrder l) h) (in-order-mem z l)
-  where
-    go : (z ≡ x) ⊎ Mem z (inOrder l) → (Mem z (inOrder l) → Mem z l) → (z ≡ x) ⊎ Mem z l
-    go (inl e) ih = inl e
-    go (inr m) ih = inr (ih m)
+in-order-mem z l m = sort-mem ranksLower z l (rw (in-order-is l) at m)
 
 -- which rises where no two rank alike
+rises : (l : List Order) → RisingBy rank l → Rising l
+rises [] r = tt
+rises (x ∷ l) r = (r .0, rises l (r .1))
+
 pub in-order-rises : (l : List Order) → Apart l → Rising (inOrder l)
-unfolding inOrder
-in-order-rises [] a = tt
-in-order-rises (x ∷ l) a = insert-rises x (inOrder l) (in-order-rises l (a .1)) (λ y m. a .0 y (in-order-mem y l m))
+in-order-rises l a = rw (in-order-is l) (rises (sortBy ranksLower l) (sort-rises ranksLower rank l (λ x y m n. refl) a))
 
 -- ---- lists one after the other
 

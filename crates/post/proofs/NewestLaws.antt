@@ -1,8 +1,8 @@
 -- The newest entry of a lane is its greatest stamp with the last serial that it stands under. Assumes nothing.
-use mathlib.Core.Path.{_≡_, refl, ap}
+use mathlib.Core.Path.{_≡_, refl, ap, ap₂, sym, _∙_}
 use mathlib.Core.Bool.{Bool, true, false, cond, _&&_}
 use mathlib.Core.List.{List}
-use Prim.Native.Nat.{ℕ, zero, suc, _+_, _-_, _*_, _<_, _≤_, max}
+use Prim.Native.Nat.{ℕ, zero, suc, _+_, _-_, _*_, _%_, _<_, _≤_, max}
 use native.Mathlib.Numerals.{add-one}
 use native.Mathlib.Omega.{arith}
 use lib.Dec.{eqb, ltb, leb}
@@ -46,15 +46,33 @@ unfolding greatestBelow
 greatest-bound table first zero k h = absurd (omega arith)
 greatest-bound table first (suc n) k h = bound-more table first n k _ h (greatest-bound table first n k)
 
--- a serial or 0, by differences
-pub serial-if-is : (x g s a r : ℕ) → x ≤ g → 0 < g → s ≤ 16 → a ≡ x - (g - 1) → r ≡ a * 32 - (32 - s) → r ≡ cond (eqb x g) s 0
-serial-if-is x g s a r h p q d e = go (eqb x g) refl where
-  go : (t : Bool) → eqb x g ≡ t → r ≡ cond (eqb x g) s 0
+-- 1 or 0, by a difference
+pub is-greatest-is : (x g r : ℕ) → x ≤ g → 0 < g → r ≡ x - (g - 1) → r ≡ cond (eqb x g) 1 0
+is-greatest-is x g r h p e = go (eqb x g) refl where
+  go : (t : Bool) → eqb x g ≡ t → r ≡ cond (eqb x g) 1 0
   go true f = let i : x ≡ g = eqb-true x g f in rw f (omega arith)
-  go false f = let z : a ≡ 0 = omega (arith, eqb-false x g f) in rw f (omega arith)
+  go false f = rw f (omega (arith, eqb-false x g f))
 
-pub serial-if-bound : (x g s a r : ℕ) → x ≤ g → 0 < g → s ≤ 16 → a ≡ x - (g - 1) → r ≡ a * 32 - (32 - s) → r ≤ 16
-serial-if-bound x g s a r h p q d e = omega arith
+-- a serial with its flag or 0, by a product
+pub flagged-is : (x g a s : ℕ) → a ≡ cond (eqb x g) 1 0 → a * (32 + s) ≡ cond (eqb x g) (32 + s) 0
+flagged-is x g a s e = go (eqb x g) e where
+  go : (t : Bool) → a ≡ cond t 1 0 → a * (32 + s) ≡ cond t (32 + s) 0
+  go true f = rw f (omega arith)
+  go false f = rw f (omega arith)
+
+pub flagged-bound : (x g a s : ℕ) → s ≤ 16 → a ≡ cond (eqb x g) 1 0 → a * (32 + s) ≤ 48
+flagged-bound x g a s h e = go (eqb x g) e where
+  go : (t : Bool) → a ≡ cond t 1 0 → a * (32 + s) ≤ 48
+  go true f = rw f (omega arith)
+  go false f = rw f (omega arith)
+
+-- the flag of a last serial, where 0 says that there is none
+abbrev pub flagOf : ℕ → ℕ
+flagOf l = cond (ltb 0 l) (32 + l) 0
+
+pub flag-last : (l : ℕ) → l < 32 → flagOf l % 32 ≡ l
+flag-last zero h = refl
+flag-last (suc l) h = rw (lt-ltb 0 (suc l) (omega arith)) (omega arith)
 
 pub last-one : (table : List ℕ) (first m : ℕ) → _≡_ {A = ℕ} 0 (lastBelow table first m 1)
 unfolding lastBelow
@@ -64,11 +82,18 @@ last-one table first m = go (eqb (getD table (first + 0) 0) m) where
   go false = refl
 
 -- one serial more
-pub last-more : (table : List ℕ) (first m n l v r : ℕ) → l ≡ lastBelow table first m n
-    → v ≡ cond (eqb (getD table (first + n) 0) m) n 0 → r ≡ max l v
-    → r ≡ lastBelow table first m (n + 1)
+flag-more : (l n : ℕ) (t : Bool) → 0 < n → max (flagOf l) (cond t (32 + n) 0) ≡ flagOf (max l (cond t n 0))
+flag-more zero n true h = let z : max 0 n ≡ n = omega arith in rw (z, lt-ltb 0 n h) (omega arith)
+flag-more zero n false h = refl
+flag-more (suc l) n true h = rw (lt-ltb 0 (max (suc l) n) (omega arith), lt-ltb 0 (suc l) (omega arith)) (omega arith)
+flag-more (suc l) n false h = let z : max (suc l) 0 ≡ suc l = omega arith in rw (z, lt-ltb 0 (suc l) (omega arith)) (omega arith)
+
+pub last-more : (table : List ℕ) (first m n l v r : ℕ) → 0 < n → l ≡ flagOf (lastBelow table first m n)
+    → v ≡ cond (eqb (getD table (first + n) 0) m) (32 + n) 0 → r ≡ max l v
+    → r ≡ flagOf (lastBelow table first m (n + 1))
 unfolding lastBelow
-last-more table first m n l v r p q e = rw (add-one, ← p, ← q) e
+last-more table first m n l v r h p q e =
+    e ∙ ap₂ max p q ∙ flag-more (lastBelow table first m n) n (eqb (getD table (first + n) 0) m) h ∙ ap (λ k. flagOf (lastBelow table first m k)) (sym (add-one n))
 
 -- the last serial below n is not above n
 larger-bound : (l n : ℕ) (t : Bool) → l ≤ n → max l (cond t n 0) ≤ suc n

@@ -1,5 +1,7 @@
 // One post by value: its record, and the parts of a step that work on one of its arrays.
 // The contracts cite specs/Record.antt and specs/Newest.antt, those of private functions specs/Loops.antt.
+use cells::PLACES;
+use cells::TABLE;
 use frame::Entry;
 use frame::Frame;
 use frame::Serial;
@@ -26,11 +28,11 @@ pub struct Post {
     pub clock: Stamp,
     pub serial: Serial,
     pub logged: u8,
-    pub last: [u8; 8],
-    pub table: [u16; 136],
-    pub stamps: [u16; 128],
-    pub words: [u16; 128],
-    pub log: [u8; 128],
+    pub last: [u8; Frame::LANES],
+    pub table: [u16; TABLE],
+    pub stamps: [u16; PLACES],
+    pub words: [u16; PLACES],
+    pub log: [u8; PLACES],
 }
 
 // A post without its arrays: what a step in place is handed, beside the arrays that are lent to it.
@@ -45,13 +47,15 @@ pub struct Head {
 }
 
 impl Post {
-    pub const LANES: u8 = 8;
+    pub const LANES: u8 = Frame::LANES as u8;
 
-    pub const SERIALS: u8 = 17;
+    pub const SERIALS: u8 = Serial::COUNT;
+
+    pub const PLACES: u8 = PLACES as u8;
 
     pub const CLOCK_LIMIT: u16 = 65535;
 
-    pub const FRAME_LENGTH: usize = 32;
+    pub const FRAME_LENGTH: usize = Frame::LENGTH;
 
     // A fresh post by lane and roles, not judged: `single::fresh` judges.
     pub fn new(lane: u8, posts: u8, sources: u8, dests: u8) -> Self
@@ -65,17 +69,17 @@ impl Post {
             clock: Stamp(0),
             serial: Serial(0),
             logged: 0,
-            last: [0; 8],
-            table: [0; 136],
-            stamps: [0; 128],
-            words: [0; 128],
-            log: [0; 128],
+            last: [0; Frame::LANES],
+            table: [0; TABLE],
+            stamps: [0; PLACES],
+            words: [0; PLACES],
+            log: [0; PLACES],
         }
     }
 }
 
 // Hear, part 1: each entry raises the table.
-pub fn raise_all(table: &mut [u16; 136], entries: [Entry; 8])
+pub fn raise_all(table: &mut [u16; TABLE], entries: [Entry; Frame::LANES])
     ensures { λ _. ⌜ now (table .exit) ≡ raisedBelow (now (table .entry)) entries 8 ⌝ }
 {
     for lane in 0..Post::LANES {
@@ -84,7 +88,7 @@ pub fn raise_all(table: &mut [u16; 136], entries: [Entry; 8])
 }
 
 // Nothing is written where the stamp is not larger: most entries of a frame are known.
-fn raise(table: &mut [u16; 136], lane: u8, e: Entry)
+fn raise(table: &mut [u16; TABLE], lane: u8, e: Entry)
     ensures { λ _. ⌜ now (table .exit) ≡ raised (now (table .entry)) lane e ⌝ }
 {
     let old = cells::stamp_under(table, lane, e.serial);
@@ -94,10 +98,10 @@ fn raise(table: &mut [u16; 136], lane: u8, e: Entry)
 }
 
 // The newest entry of each lane.
-pub fn newest_entries(table: &[u16; 136]) -> [Entry; 8]
+pub fn newest_entries(table: &[u16; TABLE]) -> [Entry; Frame::LANES]
     ensures { λ r. ⌜ r ≡ newestEntries (now (table .entry)) ⌝ }
 {
-    let mut entries = [none(); 8];
+    let mut entries = [none(); Frame::LANES];
     for lane in 0..Frame::LANES {
         entries[lane] = newest_of(table, lane as u8);
     }
@@ -115,11 +119,11 @@ fn none() -> Entry
 }
 
 // The greatest stamp of the lane, and the last serial that it stands under.
-fn newest_of(table: &[u16; 136], lane: u8) -> Entry
+fn newest_of(table: &[u16; TABLE], lane: u8) -> Entry
     requires { ⌜ lane < 8 ⌝ }
     ensures { λ r. ⌜ r ≡ newest (now (table .entry)) lane ⌝ }
 {
-    let first = (lane as usize) * 17;
+    let first = (lane as usize) * (Serial::COUNT as usize);
     let stamp = greatest(table, first);
     if stamp.0 == 0 {
         none()
@@ -148,33 +152,40 @@ fn last_under(table: &[u16], first: usize, stamp: Stamp) -> Serial
     requires { do ⌜ (first + 17 ≤ (← ⟦table.len()⟧)) × (0 < stamp .0) × (greatestBelow (now table) first 17 ≡ stamp .0) ⌝ }
     ensures { λ r. ⌜ r ≡ record { 0 = lastBelow (now (table .entry)) first (stamp .0) 17 } ⌝ }
 {
-    let mut last = Serial(0);
+    let mut highest: u8 = 0;
     for serial in 1..Post::SERIALS {
-        let found = serial_if(
+        let found = flagged(
             Stamp(table[first + (serial as usize)]),
             stamp,
             Serial(serial),
         );
-        last = higher(last, found);
+        highest = higher(highest, found);
     }
-    last
+    Serial(highest % 32)
 }
 
-// The serial if the stamp is the greatest, or else 0. By differences and not by a test: so written, the compiler does
-// eight serials at once.
-fn serial_if(stamp: Stamp, greatest: Stamp, serial: Serial) -> Serial
+// The serial with a flag, 32, if its stamp is the greatest, or else 0. By a product and not by a test, and of no factor
+// that is a power of two: so written, the compiler does eight serials at once.
+fn flagged(stamp: Stamp, greatest: Stamp, serial: Serial) -> u8
     requires { ⌜ (stamp .0 ≤ greatest .0) × (0 < greatest .0) × (serial .0 ≤ 16) ⌝ }
-    ensures { λ r. ⌜ r ≡ record { 0 = cond (eqb (stamp .0) (greatest .0)) (serial .0) 0 } ⌝ }
+    ensures { λ r. ⌜ r ≡ cond (eqb (stamp .0) (greatest .0)) (32 + serial .0) 0 ⌝ }
 {
-    let found = less(less(stamp.0, greatest.0 - 1) * 32, 32 - (serial.0 as u16));
-    Serial(found as u8)
+    (is_greatest(stamp, greatest) * (32 + (serial.0 as u16))) as u8
 }
 
-// The higher of two serials.
-fn higher(a: Serial, b: Serial) -> Serial
-    ensures { λ r. ⌜ r ≡ record { 0 = max (a .0) (b .0) } ⌝ }
+// 1 if the stamp is the greatest, or else 0: by how much it is above what lies just below the greatest.
+fn is_greatest(stamp: Stamp, greatest: Stamp) -> u16
+    requires { ⌜ (stamp .0 ≤ greatest .0) × (0 < greatest .0) ⌝ }
+    ensures { λ r. ⌜ r ≡ cond (eqb (stamp .0) (greatest .0)) 1 0 ⌝ }
 {
-    if a.0 < b.0 { b } else { a }
+    less(stamp.0, greatest.0 - 1)
+}
+
+// The higher of two flagged serials.
+fn higher(a: u8, b: u8) -> u8
+    ensures { λ r. ⌜ r ≡ max a b ⌝ }
+{
+    if a < b { b } else { a }
 }
 
 // The difference, and 0 where there is none.

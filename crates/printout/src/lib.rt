@@ -1,5 +1,7 @@
 // The lines of the printout into a lent buffer. The contracts cite Texts.antt of the crate `meaning`; those of private
 // functions cite specs/Items.antt besides.
+use cells::PLACES;
+use frame::Serial;
 use post::Head;
 use text::put_labelled;
 use text::put_text;
@@ -40,9 +42,9 @@ pub fn put_post(
     buffer: &mut [u8],
     at: usize,
     h: Head,
-    stamps: &[u16; 128],
-    words: &[u16; 128],
-    log: &[u8; 128],
+    stamps: &[u16; PLACES],
+    words: &[u16; PLACES],
+    log: &[u8; PLACES],
 ) -> usize
     ensures { λ r. ⌜ ((last table : List ℕ) → out (now (buffer .exit)) r ≡ wrote (out (now (buffer .entry)) at) (postText (h .lane) (postOf h last table (now (stamps .entry)) (now (words .entry)) (now (log .entry))))) ⌝ }
 {
@@ -67,8 +69,8 @@ fn put_items(
     at: usize,
     n: usize,
     log: &[u8],
-    stamps: &[u16; 128],
-    words: &[u16; 128],
+    stamps: &[u16; PLACES],
+    words: &[u16; PLACES],
 ) -> usize
     ensures { λ r. ⌜ out (now (buffer .exit)) r ≡ wrote (out (now (buffer .entry)) at) (itemsOf (now (stamps .entry)) (now (words .entry)) (take n (now (log .entry)))) ⌝ }
 {
@@ -86,13 +88,13 @@ fn put_item(
     buffer: &mut [u8],
     at: usize,
     place: u8,
-    stamps: &[u16; 128],
-    words: &[u16; 128],
+    stamps: &[u16; PLACES],
+    words: &[u16; PLACES],
 ) -> usize
     ensures { λ r. ⌜ out (now (buffer .exit)) r ≡ wrote (out (now (buffer .entry)) at) (itemOf (now (stamps .entry)) (now (words .entry)) place) ⌝ }
 {
     let stamp = cells::stamp_at(stamps, place as usize);
-    let lane = (place / 16) as u16;
+    let lane = (place / Serial::LAST) as u16;
     let word = cells::word_at(words, place as usize);
     let a = put_labelled(buffer, at, b" (", stamp.0);
     let a = put_labelled(buffer, a, b" ", lane);

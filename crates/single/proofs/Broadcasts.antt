@@ -29,7 +29,7 @@ lane-below lanes lane e = ltb-true lane 8 (and-parts (ltb lane 8) _ (not-false (
 pub sent-accepted : (p : Post) (word : ℕ) → orderRefusal p ≡ 0 → frameRefusal (orderSent p word .frame) ≡ 0
 unfolding orderSent ownTaken kept ticked
 sent-accepted p word z =
-    let a = order-passed (p .lane) (p .posts) (p .sources) (p .serial .0) (p .clock .0) z in
+    let a = order-passed p z in
     let l : p .lane < 8 = lane-below (p .posts) (p .lane) (a .0) in
     order-accepted (ownTaken p word) (p .lane) (p .serial .0 + 1) (p .clock .0 + 1) word l l (omega arith)
     (omega (arith, leb-false 16 (p .serial .0) (a .2))) (omega arith)
@@ -42,7 +42,7 @@ pub taken-accepted : (p : Post) (f : Frame) → hearRefusal p f ≡ 0 → isNext
     → frameRefusal (hearTaken p f .frame) ≡ 0
 unfolding hearTaken
 taken-accepted p f z t a =
-    let h = hear-passed (p .lane) (p .posts) (p .sources) (p .serial .0) (p .clock .0) (lastOf p (f .lane)) _ f z in
+    let h = hear-passed p f z in
     let l : p .lane < 8 = lane-below (p .posts) (p .lane) (h .0) in
     let o = accepted f a .order (next-is f (lastOf p (f .lane)) t .0) in
     order-accepted (taken p f) (f .lane) (f .serial .0) (f .stamp .0) (f .word) (rw (taken-lane p f) l) (o .lane) (o .some) (o .serial) (o .stamp)

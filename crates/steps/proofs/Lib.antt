@@ -1,3 +1,4 @@
 pub mod Passed
 pub mod Ways
 pub mod InPlaceLaws
+pub mod AnswerLaws

@@ -1,5 +1,5 @@
 -- The ways through the steps. Assumes nothing.
-use mathlib.Core.Path.{_≡_, refl, sym, _∙_}
+use mathlib.Core.Path.{_≡_, refl, sym, ap, _∙_}
 use mathlib.Core.Bool.{Bool, true, false, cond}
 use mathlib.Core.List.{List}
 use Prim.Native.Nat.{ℕ, _+_, _<_, max}
@@ -21,9 +21,9 @@ use Rattle.post.specs.Newest.{raisedBelow, newestEntries}
 use Rattle.post.specs.Taking.{kept, ticked, ownTaken, raisedPost, taken}
 use Rattle.deliver.specs.declared.Delivered.{Delivered}
 use Rattle.deliver.specs.Delivery.{delivered, stampAt}
-use Rattle.steps.specs.Refusals.{orderRefusal, orderRefusalBy, isNext, hearRefusal, hearRefusalBy}
+use Rattle.steps.specs.Refusals.{orderRefusal, isNext, hearRefusal}
 use Rattle.steps.specs.Steps.{orderSent, orderStep, hearTaken, hearOther, hearStep, beaconStep}
-use Rattle.steps.specs.InPlace.{headOf, orderTook, hearTook, passedAnswer}
+use Rattle.steps.specs.InPlace.{headOf, orderTook, hearTook, passedAnswer, JudgedBy}
 use Rattle.steps.proofs.Passed.{order-passed, hear-passed}
 use Rattle.steps.specs.declared.OrderAnswer as orders
 use Rattle.steps.specs.declared.HearAnswer as hearings
@@ -44,10 +44,10 @@ each h = (λ log. h log .0, (λ log. h log .1, λ log. h log .2))
 -- ---- order
 
 -- what is not refused by 23 and 24 can rise
-pub can-rise : (lane posts sources serial clock : ℕ) → orderRefusalBy lane posts sources serial clock ≡ 0 → (clock < 65535) × (serial < 16)
-can-rise lane posts sources serial clock z =
-    let a = order-passed lane posts sources serial clock z in
-    (leb-false 65535 clock (a .3), leb-false 16 serial (a .2))
+pub can-rise : (p : Post) → orderRefusal p ≡ 0 → (p .clock .0 < 65535) × (p .serial .0 < 16)
+can-rise p z =
+    let a = order-passed p z in
+    (leb-false 65535 (p .clock .0) (a .3), leb-false 16 (p .serial .0) (a .2))
 
 pub take-own-is : (p : Post) (word place : ℕ) (table last stamps words : List ℕ) → place ≡ orderPlace (p .lane) (p .serial .0 + 1)
     → table ≡ withStamp (p .table) (p .lane) (p .serial .0 + 1) (p .clock .0 + 1) → last ≡ set (p .last) (p .lane) (p .serial .0 + 1)
@@ -113,14 +113,6 @@ beacon-refused p b f e s q = rw (sym e ∙ s, q)
 
 -- ---- hear
 
--- what is not refused by 24 can rise
-pub can-pass : (p : Post) (f : Frame) (last before : ℕ) → hearRefusalBy (p .lane) (p .posts) (p .sources) (p .serial .0) (p .clock .0) last before f ≡ 0
-    → isNext f last ≡ true → hasLane (p .sources) (p .lane) ≡ true
-    → max (p .clock .0) (f .stamp .0) < 65535
-can-pass p f last before z t s =
-    let a = hear-passed (p .lane) (p .posts) (p .sources) (p .serial .0) (p .clock .0) last before f z in
-    leb-false 65535 (max (p .clock .0) (f .stamp .0)) (rw (t, s) at (a .1))
-
 pub take-source : (p : Post) (f : Frame) (place : ℕ) (t last stamps words : List ℕ) (b : Bool) (reached : Stamp) (t′ : List ℕ)
     → place ≡ orderPlace (f .lane) (f .serial .0) → t ≡ raisedBelow (p .table) (f .entries) 8 → last ≡ set (p .last) (f .lane) (f .serial .0)
     → stamps ≡ set (p .stamps) place (f .stamp .0) → words ≡ set (p .words) place (f .word) → b ≡ hasLane (p .sources) (p .lane) → b ≡ true
@@ -156,13 +148,23 @@ take-frame p q f entries e en =
 -- the numbers that a hearing is judged by are the post's
 judged-by : (p : Post) (f : Frame) (last : Serial) (place : ℕ) (before : Stamp) (n : ℕ) → last ≡ record { 0 = lastOf p (f .lane) }
     → place ≡ orderPlace (f .lane) (last .0) → before ≡ record { 0 = stampAt p place }
-    → n ≡ hearRefusalBy (p .lane) (p .posts) (p .sources) (p .serial .0) (p .clock .0) (last .0) (before .0) f
+    → JudgedBy (headOf p) (last .0) (before .0) f n
     → n ≡ hearRefusal p f
-judged-by p f last place before n el ep eb e = rw (eb, ep, el) at e
+judged-by p f last place before n el ep eb e =
+    e (p .last) (p .table) (p .stamps) (p .words) (p .log) (ap (λ (s : Serial). s .0) (sym el)) (rw (← ep) (ap (λ (s : Stamp). s .0) (sym eb)))
+
+-- what is not refused by 24 can rise
+pub can-pass : (p : Post) (f : Frame) (last : Serial) (place : ℕ) (before : Stamp) (n : ℕ) (b : Bool) → last ≡ record { 0 = lastOf p (f .lane) }
+    → place ≡ orderPlace (f .lane) (last .0) → before ≡ record { 0 = stampAt p place } → JudgedBy (headOf p) (last .0) (before .0) f n → n ≡ 0
+    → b ≡ isNext f (last .0) → b ≡ true → isSource p (p .lane) ≡ true → max (p .clock .0) (f .stamp .0) < 65535
+can-pass p f last place before n b el ep eb e z t s q =
+    let a = hear-passed p f (sym (judged-by p f last place before n el ep eb e) ∙ z) in
+    let next : isNext f (lastOf p (f .lane)) ≡ true = rw el at (sym t ∙ s) in
+    leb-false 65535 (max (p .clock .0) (f .stamp .0)) (rw (next, q) at (a .1))
 
 pub hear-took : (p q : Post) (f : Frame) (last : Serial) (place : ℕ) (before : Stamp) (n m : ℕ) (b : Bool) (g : Frame)
     → last ≡ record { 0 = lastOf p (f .lane) } → place ≡ orderPlace (f .lane) (last .0) → before ≡ record { 0 = stampAt p place }
-    → n ≡ hearRefusalBy (p .lane) (p .posts) (p .sources) (p .serial .0) (p .clock .0) (last .0) (before .0) f → n ≡ 0
+    → JudgedBy (headOf p) (last .0) (before .0) f n → n ≡ 0
     → b ≡ isNext f (last .0) → b ≡ true → m ≡ 0 → q ≡ taken p f → g ≡ hearTaken p f .frame
     → (m ≡ hearRefusal p f) × (q ≡ hearTook p f) × (g ≡ hearStep p f .frame)
 unfolding hearStep hearTook
@@ -174,7 +176,7 @@ hear-took p q f last place before n m b g el ep eb e z t s em eq eg =
 
 pub hear-raised : (p : Post) (f : Frame) (last : Serial) (place : ℕ) (before : Stamp) (n : ℕ) (b : Bool) (table : List ℕ)
     → last ≡ record { 0 = lastOf p (f .lane) } → place ≡ orderPlace (f .lane) (last .0) → before ≡ record { 0 = stampAt p place }
-    → n ≡ hearRefusalBy (p .lane) (p .posts) (p .sources) (p .serial .0) (p .clock .0) (last .0) (before .0) f → n ≡ 0
+    → JudgedBy (headOf p) (last .0) (before .0) f n → n ≡ 0
     → b ≡ isNext f (last .0) → b ≡ false → table ≡ raisedBelow (p .table) (f .entries) 8
     → (0 ≡ hearRefusal p f) × (withClock p (p .clock .0) (p .serial .0) table ≡ hearTook p f) × (noFrame ≡ hearStep p f .frame)
 unfolding hearStep hearOther hearTook raisedPost
@@ -186,7 +188,7 @@ hear-raised p f last place before n b table el ep eb e z t s et =
 
 pub hear-stays : (p : Post) (f : Frame) (last : Serial) (place : ℕ) (before : Stamp) (n : ℕ)
     → last ≡ record { 0 = lastOf p (f .lane) } → place ≡ orderPlace (f .lane) (last .0) → before ≡ record { 0 = stampAt p place }
-    → n ≡ hearRefusalBy (p .lane) (p .posts) (p .sources) (p .serial .0) (p .clock .0) (last .0) (before .0) f → (n ≡ 0 → ⊥)
+    → JudgedBy (headOf p) (last .0) (before .0) f n → (n ≡ 0 → ⊥)
     → (n ≡ hearRefusal p f) × (p ≡ hearTook p f) × (noFrame ≡ hearStep p f .frame)
 unfolding hearStep hearTook
 hear-stays p f last place before n el ep eb e h =

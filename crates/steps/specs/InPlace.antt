@@ -1,11 +1,16 @@
 -- The steps in place: what an order or a hearing leaves of the post before it delivers. Assumes nothing.
 use Prim.Native.Nat.{ℕ}
+use mathlib.Core.Path.{_≡_}
 use mathlib.Core.Bool.{cond}
+use mathlib.Core.List.{List, []}
 use lib.Dec.{eqb}
+use lib.ListN.{getD}
 use Rattle.frame.specs.declared.Frame.{Frame}
+use Rattle.cells.specs.Tables.{orderPlace}
 use Rattle.post.specs.declared.Head.{Head}
 use Rattle.post.specs.declared.Post.{Post}
 use Rattle.post.specs.Record.{lastOf}
+use Rattle.post.specs.Heads.{postOf}
 use Rattle.post.specs.Taking.{ownTaken, raisedPost, taken}
 use Rattle.steps.specs.Refusals.{orderRefusal, isNext, hearRefusal}
 use Rattle.steps.specs.Steps.{otherAnswer}
@@ -34,3 +39,13 @@ headOf p = record {
   serial = p .serial;
   logged = p .logged;
 }
+
+-- a post with these numbers: for what looks at the numbers alone
+abbrev pub bare : Head → Post
+bare h = postOf h [] [] [] [] []
+
+-- n is the refusal of a hearing of f at each post with these numbers where `last` was taken last from the frame's lane, at stamp `before`
+abbrev pub JudgedBy : Head → ℕ → ℕ → Frame → ℕ → Type 0
+JudgedBy h last before f n =
+    (taken table stamps words log : List ℕ) → getD taken (f .lane) 0 ≡ last → getD stamps (orderPlace (f .lane) last) 0 ≡ before
+    → n ≡ hearRefusal (postOf h taken table stamps words log) f

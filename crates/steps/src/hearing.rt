@@ -1,6 +1,8 @@
 // The hear step: its refusals 21, 24, 26 and 28 to 30, and what it does where none of them holds.
 use crate::HearAnswer;
 use crate::Took;
+use cells::PLACES;
+use cells::TABLE;
 use frame::Entry;
 use frame::Frame;
 use frame::Serial;
@@ -11,14 +13,15 @@ ghost use mathlib.Core.Path.{_≡_};
 ghost use mathlib.Core.Bool.{true, not, _&&_};
 ghost use mathlib.Core.List.{List};
 ghost use Prim.Native.Nat.{ℕ, _+_, _<_, max};
+ghost use lib.Dec.{ltb, leb};
 ghost use lib.ListN.{getD};
 ghost use Rattle.cells.specs.Sets.{hasLane};
 ghost use Rattle.frame.specs.Layout.{noEntry};
 ghost use Rattle.post.specs.Heads.{postOf};
 ghost use Rattle.post.specs.Taking.{taken};
-ghost use Rattle.steps.specs.Refusals.{isNext, clockPasses, hasStamp, strangeEntries, strange, notAbove, beyondOwn, hearRefusalBy};
+ghost use Rattle.steps.specs.Refusals.{isNext, hasStamp, strangeEntries, strange, beyondOwn};
 ghost use Rattle.steps.specs.Steps.{hearTaken, otherAnswer};
-ghost use Rattle.steps.specs.InPlace.{passedAnswer};
+ghost use Rattle.steps.specs.InPlace.{passedAnswer, bare, JudgedBy};
 
 // Whether the frame's order is the next of its lane.
 pub(crate) fn is_next(f: Frame, last: Serial) -> bool
@@ -28,42 +31,33 @@ pub(crate) fn is_next(f: Frame, last: Serial) -> bool
 }
 
 // The lowest of 21, 24, 26 and 28 to 30 that holds, or 0.
-pub(crate) fn refusal(
-    lane: u8,
-    posts: u8,
-    sources: u8,
-    serial: Serial,
-    clock: Stamp,
-    last: Serial,
-    before: Stamp,
-    f: Frame,
-) -> u8
-    ensures { λ r. ⌜ r ≡ hearRefusalBy lane posts sources (serial .0) (clock .0) (last .0) (before .0) f ⌝ }
+pub(crate) fn refusal(h: Head, last: Serial, before: Stamp, f: Frame) -> u8
+    ensures { λ r. ⌜ JudgedBy h (last .0) (before .0) f r ⌝ }
 {
-    let number = cells::pick(beyond_own(lane, serial, clock, f), 30, 0);
+    let number = cells::pick(beyond_own(h, f), 30, 0);
     let number = cells::pick(not_above(last, before, f), 29, number);
-    let number = cells::pick(strange_frame(posts, sources, f), 28, number);
-    let number = cells::pick(f.sender == lane, 26, number);
-    let number = cells::pick(clock_passes(lane, sources, clock, last, f), 24, number);
-    cells::pick(!cells::has(posts, lane), 21, number)
+    let number = cells::pick(strange_frame(h, f), 28, number);
+    let number = cells::pick(f.sender == h.lane, 26, number);
+    let number = cells::pick(clock_passes(h, last, f), 24, number);
+    cells::pick(!cells::has(h.posts, h.lane), 21, number)
 }
 
 // 24
-fn clock_passes(lane: u8, sources: u8, clock: Stamp, last: Serial, f: Frame) -> bool
-    ensures { λ r. ⌜ r ≡ clockPasses lane sources (clock .0) (last .0) f ⌝ }
+fn clock_passes(h: Head, last: Serial, f: Frame) -> bool
+    ensures { λ r. ⌜ r ≡ (isNext f (last .0) && hasLane (h .sources) (h .lane) && leb 65535 (max (h .clock .0) (f .stamp .0))) ⌝ }
 {
-    let source = cells::has(sources, lane);
-    let reached = cells::later(clock, f.stamp);
+    let source = cells::has(h.sources, h.lane);
+    let reached = cells::later(h.clock, f.stamp);
     is_next(f, last) & source & (Post::CLOCK_LIMIT <= reached.0)
 }
 
 // 28
-fn strange_frame(posts: u8, sources: u8, f: Frame) -> bool
-    ensures { λ r. ⌜ r ≡ strange posts sources f ⌝ }
+fn strange_frame(h: Head, f: Frame) -> bool
+    ensures { λ r. ⌜ r ≡ strange (bare h) f ⌝ }
 {
-    let inside = cells::has(posts, f.sender);
-    let source = cells::has(sources, f.lane);
-    !inside | ((f.kind == Frame::ORDER) & !source) | strange_entries(sources, f)
+    let inside = cells::has(h.posts, f.sender);
+    let source = cells::has(h.sources, f.lane);
+    !inside | ((f.kind == Frame::ORDER) & !source) | strange_entries(h.sources, f)
 }
 
 fn strange_entries(sources: u8, f: Frame) -> bool
@@ -86,25 +80,25 @@ fn strange_entry(sources: u8, i: u8, e: Entry) -> bool
 
 // 29
 fn not_above(last: Serial, before: Stamp, f: Frame) -> bool
-    ensures { λ r. ⌜ r ≡ notAbove (last .0) (before .0) f ⌝ }
+    ensures { λ r. ⌜ r ≡ (isNext f (last .0) && ltb 0 (last .0) && leb (f .stamp .0) (before .0)) ⌝ }
 {
     is_next(f, last) & (0 < last.0) & (f.stamp.0 <= before.0)
 }
 
 // 30
-fn beyond_own(lane: u8, serial: Serial, clock: Stamp, f: Frame) -> bool
-    ensures { λ r. ⌜ r ≡ beyondOwn lane (serial .0) (clock .0) f ⌝ }
+fn beyond_own(h: Head, f: Frame) -> bool
+    ensures { λ r. ⌜ r ≡ beyondOwn (bare h) f ⌝ }
 {
     let entries = f.entries;
-    let e = own_entry(entries, lane);
-    let order = (f.kind == Frame::ORDER) & (f.lane == lane) & (serial.0 < f.serial.0);
-    order | (!(e.stamp.0 == 0) & ((serial.0 < e.serial.0) | (clock.0 < e.stamp.0)))
+    let e = own_entry(entries, h.lane);
+    let order = (f.kind == Frame::ORDER) & (f.lane == h.lane) & (h.serial.0 < f.serial.0);
+    order | (!(e.stamp.0 == 0) & ((h.serial.0 < e.serial.0) | (h.clock.0 < e.stamp.0)))
 }
 
-fn own_entry(entries: [Entry; 8], lane: u8) -> Entry
+fn own_entry(entries: [Entry; Frame::LANES], lane: u8) -> Entry
     ensures { λ r. ⌜ r ≡ getD entries lane noEntry ⌝ }
 {
-    if lane < 8 {
+    if lane < Post::LANES {
         entries[lane as usize]
     } else {
         Entry {
@@ -118,10 +112,10 @@ fn own_entry(entries: [Entry; 8], lane: u8) -> Entry
 pub(crate) fn take(
     h: Head,
     f: Frame,
-    last: &mut [u8; 8],
-    table: &mut [u16; 136],
-    stamps: &mut [u16; 128],
-    words: &mut [u16; 128],
+    last: &mut [u8; Frame::LANES],
+    table: &mut [u16; TABLE],
+    stamps: &mut [u16; PLACES],
+    words: &mut [u16; PLACES],
 ) -> Took
     requires { ⌜ (hasLane (h .sources) (h .lane) ≡ true → max (h .clock .0) (f .stamp .0) < 65535) ⌝ }
     ensures { λ r. ⌜ r .number ≡ 0 ⌝ }
@@ -152,10 +146,10 @@ pub(crate) fn take(
 fn take_in(
     h: Head,
     f: Frame,
-    last: &mut [u8; 8],
-    table: &mut [u16; 136],
-    stamps: &mut [u16; 128],
-    words: &mut [u16; 128],
+    last: &mut [u8; Frame::LANES],
+    table: &mut [u16; TABLE],
+    stamps: &mut [u16; PLACES],
+    words: &mut [u16; PLACES],
 ) -> Head
     requires { ⌜ (hasLane (h .sources) (h .lane) ≡ true → max (h .clock .0) (f .stamp .0) < 65535) ⌝ }
     ensures { λ r. ⌜ ((log : List ℕ) → postOf r (now (last .exit)) (now (table .exit)) (now (stamps .exit)) (now (words .exit)) log ≡ taken (postOf h (now (last .entry)) (now (table .entry)) (now (stamps .entry)) (now (words .entry)) log) f) ⌝ }

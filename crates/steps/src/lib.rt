@@ -1,8 +1,11 @@
 // The steps of one post without the judgement of its record (12), for the crates that use it: total, and defined for every record.
-// Hosts use the crate `single`, which judges first. The contracts cite specs/Steps.antt, specs/Refusals.antt and specs/InPlace.antt.
+// Hosts use the crate `single`, which judges first. The contracts cite specs/Steps.antt, specs/Refusals.antt, specs/Answers.antt and
+// specs/InPlace.antt.
 mod hearing;
 mod ordering;
 
+use cells::PLACES;
+use cells::TABLE;
 use frame::Frame;
 use frame::Serial;
 use frame::Stamp;
@@ -13,9 +16,11 @@ ghost use mathlib.Core.List.{List};
 ghost use Prim.Native.Nat.{ℕ};
 ghost use Rattle.frame.specs.Layout.{noFrame};
 ghost use Rattle.post.specs.Heads.{postOf};
-ghost use Rattle.steps.specs.Refusals.{orderRefusal, hearRefusal};
+ghost use Rattle.steps.specs.Refusals.{orderRefusal, hearRefusal, beaconRefusal};
 ghost use Rattle.steps.specs.Steps.{orderStep, hearStep, beaconStep};
-ghost use Rattle.steps.specs.InPlace.{headOf, orderTook, hearTook};
+ghost use Rattle.steps.specs.InPlace.{headOf, orderTook, hearTook, bare};
+ghost use Rattle.steps.specs.Answers.{orderNumber, hearNumber, beaconNumber};
+ghost use Rattle.steps.specs.Values.{orderSerial, orderStamp, orderCount, orderStepSerial, orderStepStamp, orderStepCount, hearCount, hearStepCount};
 
 // What an order answers: its serial, its stamp and the count delivered, or the refusal.
 pub enum OrderAnswer {
@@ -73,6 +78,10 @@ pub struct Took {
 // Order (lane p, word).
 pub fn order(p: Post, word: u16) -> Ordered
     ensures { λ r. ⌜ r ≡ orderStep p word ⌝ }
+    ensures number { λ r. ⌜ orderNumber (r .answer) ≡ orderRefusal p ⌝ }
+    ensures serial { λ r. ⌜ orderSerial (r .answer) ≡ orderStepSerial p ⌝ }
+    ensures stamp { λ r. ⌜ orderStamp (r .answer) ≡ orderStepStamp p ⌝ }
+    ensures count { λ r. ⌜ orderCount (r .answer) ≡ orderStepCount p word ⌝ }
 {
     let h = head_of(p);
     let mut last = p.last;
@@ -109,6 +118,8 @@ pub fn order(p: Post, word: u16) -> Ordered
 // Hear (post p, frame).
 pub fn hear(p: Post, f: Frame) -> Heard
     ensures { λ r. ⌜ r ≡ hearStep p f ⌝ }
+    ensures number { λ r. ⌜ hearNumber (r .answer) ≡ hearRefusal p f ⌝ }
+    ensures count { λ r. ⌜ hearCount (r .answer) ≡ hearStepCount p f ⌝ }
 {
     let h = head_of(p);
     let mut last = p.last;
@@ -140,6 +151,7 @@ pub fn hear(p: Post, f: Frame) -> Heard
 // Beacon (post p, any role).
 pub fn beacon(p: Post) -> Beaconed
     ensures { λ r. ⌜ r ≡ beaconStep p ⌝ }
+    ensures number { λ r. ⌜ beaconNumber (r .answer) ≡ beaconRefusal p ⌝ }
 {
     beacon_in(head_of(p), &p.table)
 }
@@ -148,16 +160,16 @@ pub fn beacon(p: Post) -> Beaconed
 pub fn order_in(
     h: Head,
     word: u16,
-    last: &mut [u8; 8],
-    table: &mut [u16; 136],
-    stamps: &mut [u16; 128],
-    words: &mut [u16; 128],
+    last: &mut [u8; Frame::LANES],
+    table: &mut [u16; TABLE],
+    stamps: &mut [u16; PLACES],
+    words: &mut [u16; PLACES],
 ) -> Took
     ensures { λ r. ⌜ ((log : List ℕ) → r .number ≡ orderRefusal (postOf h (now (last .entry)) (now (table .entry)) (now (stamps .entry)) (now (words .entry)) log)) ⌝ }
     ensures post { λ r. ⌜ ((log : List ℕ) → postOf (r .head) (now (last .exit)) (now (table .exit)) (now (stamps .exit)) (now (words .exit)) log ≡ orderTook (postOf h (now (last .entry)) (now (table .entry)) (now (stamps .entry)) (now (words .entry)) log) word) ⌝ }
     ensures frame { λ r. ⌜ ((log : List ℕ) → r .frame ≡ orderStep (postOf h (now (last .entry)) (now (table .entry)) (now (stamps .entry)) (now (words .entry)) log) word .frame) ⌝ }
 {
-    let number = ordering::refusal(h.lane, h.posts, h.sources, h.serial, h.clock);
+    let number = ordering::refusal(h);
     if number == 0 {
         ordering::send(h, word, last, table, stamps, words)
     } else {
@@ -169,10 +181,10 @@ pub fn order_in(
 pub fn hear_in(
     h: Head,
     f: Frame,
-    last: &mut [u8; 8],
-    table: &mut [u16; 136],
-    stamps: &mut [u16; 128],
-    words: &mut [u16; 128],
+    last: &mut [u8; Frame::LANES],
+    table: &mut [u16; TABLE],
+    stamps: &mut [u16; PLACES],
+    words: &mut [u16; PLACES],
 ) -> Took
     ensures { λ r. ⌜ ((log : List ℕ) → r .number ≡ hearRefusal (postOf h (now (last .entry)) (now (table .entry)) (now (stamps .entry)) (now (words .entry)) log) f) ⌝ }
     ensures post { λ r. ⌜ ((log : List ℕ) → postOf (r .head) (now (last .exit)) (now (table .exit)) (now (stamps .exit)) (now (words .exit)) log ≡ hearTook (postOf h (now (last .entry)) (now (table .entry)) (now (stamps .entry)) (now (words .entry)) log) f) ⌝ }
@@ -180,16 +192,7 @@ pub fn hear_in(
 {
     let serial = cells::last_taken(last, f.lane);
     let before = cells::stamp_at(stamps, cells::order_place(f.lane, serial));
-    let number = hearing::refusal(
-        h.lane,
-        h.posts,
-        h.sources,
-        h.serial,
-        h.clock,
-        serial,
-        before,
-        f,
-    );
+    let number = hearing::refusal(h, serial, before, f);
     if number != 0 {
         return unsent(number, h);
     }
@@ -203,8 +206,9 @@ pub fn hear_in(
 }
 
 // A beacon by a lent table.
-pub fn beacon_in(h: Head, table: &[u16; 136]) -> Beaconed
+pub fn beacon_in(h: Head, table: &[u16; TABLE]) -> Beaconed
     ensures { λ r. ⌜ ((last stamps words log : List ℕ) → r ≡ beaconStep (postOf h last (now (table .entry)) stamps words log)) ⌝ }
+    ensures number { λ r. ⌜ beaconNumber (r .answer) ≡ beaconRefusal (bare h) ⌝ }
 {
     if cells::has(h.posts, h.lane) {
         let entries = post::newest_entries(table);
@@ -262,11 +266,11 @@ fn head_of(p: Post) -> Head
 // The post with these numbers and these arrays.
 fn post_of(
     h: Head,
-    last: [u8; 8],
-    table: [u16; 136],
-    stamps: [u16; 128],
-    words: [u16; 128],
-    log: [u8; 128],
+    last: [u8; Frame::LANES],
+    table: [u16; TABLE],
+    stamps: [u16; PLACES],
+    words: [u16; PLACES],
+    log: [u8; PLACES],
 ) -> Post
     ensures { λ r. ⌜ r ≡ postOf h last table stamps words log ⌝ }
 {

@@ -1,5 +1,7 @@
 // The order step: its refusals 21 to 24, and what it does where none of them holds.
 use crate::Took;
+use cells::PLACES;
+use cells::TABLE;
 use frame::Frame;
 use frame::Serial;
 use frame::Stamp;
@@ -10,27 +12,27 @@ ghost use mathlib.Core.List.{List};
 ghost use Prim.Native.Nat.{ℕ, _<_};
 ghost use Rattle.post.specs.Heads.{postOf};
 ghost use Rattle.post.specs.Taking.{ownTaken};
-ghost use Rattle.steps.specs.Refusals.{orderRefusalBy};
+ghost use Rattle.steps.specs.Refusals.{orderRefusal};
 ghost use Rattle.steps.specs.Steps.{orderSent};
 
 // The lowest of 21 to 24 that holds, or 0.
-pub(crate) fn refusal(lane: u8, posts: u8, sources: u8, serial: Serial, clock: Stamp) -> u8
-    ensures { λ r. ⌜ r ≡ orderRefusalBy lane posts sources (serial .0) (clock .0) ⌝ }
+pub(crate) fn refusal(h: Head) -> u8
+    ensures { λ r. ⌜ ((last table stamps words log : List ℕ) → r ≡ orderRefusal (postOf h last table stamps words log)) ⌝ }
 {
-    let number = cells::pick(Post::CLOCK_LIMIT <= clock.0, 24, 0);
-    let number = cells::pick(Serial::LAST <= serial.0, 23, number);
-    let number = cells::pick(!cells::has(sources, lane), 22, number);
-    cells::pick(!cells::has(posts, lane), 21, number)
+    let number = cells::pick(Post::CLOCK_LIMIT <= h.clock.0, 24, 0);
+    let number = cells::pick(Serial::LAST <= h.serial.0, 23, number);
+    let number = cells::pick(!cells::has(h.sources, h.lane), 22, number);
+    cells::pick(!cells::has(h.posts, h.lane), 21, number)
 }
 
 // The post takes its own order and broadcasts it.
 pub(crate) fn send(
     h: Head,
     word: u16,
-    last: &mut [u8; 8],
-    table: &mut [u16; 136],
-    stamps: &mut [u16; 128],
-    words: &mut [u16; 128],
+    last: &mut [u8; Frame::LANES],
+    table: &mut [u16; TABLE],
+    stamps: &mut [u16; PLACES],
+    words: &mut [u16; PLACES],
 ) -> Took
     requires { ⌜ (h .clock .0 < 65535) × (h .serial .0 < 16) ⌝ }
     ensures { λ r. ⌜ r .number ≡ 0 ⌝ }
@@ -61,10 +63,10 @@ pub(crate) fn send(
 fn take_own(
     h: Head,
     word: u16,
-    last: &mut [u8; 8],
-    table: &mut [u16; 136],
-    stamps: &mut [u16; 128],
-    words: &mut [u16; 128],
+    last: &mut [u8; Frame::LANES],
+    table: &mut [u16; TABLE],
+    stamps: &mut [u16; PLACES],
+    words: &mut [u16; PLACES],
 ) -> Head
     requires { ⌜ (h .clock .0 < 65535) × (h .serial .0 < 16) ⌝ }
     ensures { λ r. ⌜ ((log : List ℕ) → postOf r (now (last .exit)) (now (table .exit)) (now (stamps .exit)) (now (words .exit)) log ≡ ownTaken (postOf h (now (last .entry)) (now (table .entry)) (now (stamps .entry)) (now (words .entry)) log) word) ⌝ }

@@ -9,8 +9,8 @@ use Rattle.air.specs.Air.{placeRefusal, placed, airWith}
 use Rattle.cells.specs.Tables.{stampUnder, withStamp}
 use Rattle.post.specs.Newest.{raised, raisedBelow, newer, newestBelow, newestEntries}
 use Rattle.post.specs.Taking.{kept, ticked, ownTaken, raisedPost, taken}
-use Rattle.deliver.specs.Delivery.{allBelow, isLogged, isDue, dueBelow, insertKey, sort, duePlaces, dueLog, delivered}
-use Rattle.steps.specs.Refusals.{orderRefusalBy, strangeEntries, hearRefusalBy}
+use Rattle.deliver.specs.Delivery.{allBelow, isLogged, isDue, dueBelow, comesBefore, insertBy, sortBy, duePlaces, dueLog, delivered}
+use Rattle.steps.specs.Refusals.{orderRefusal, strangeEntries, hearRefusal}
 use Rattle.steps.specs.Steps.{orderSent, orderStep, hearTaken, hearStep}
 use Rattle.yard.specs.Yards.{freshYard}
 use Rattle.yard.specs.Singles.{framesAfter, postOrders, postOrdersAir, firstAfter, yardOrders, yardOrdersAir, postHears, postHearsAir, yardHears, yardHearsAir, postBeacons, postBeaconsAir, yardBeacons, yardBeaconsAir}
@@ -23,7 +23,7 @@ use Rattle.table.proofs.BadInput.{order-lane, hear-lane, beacon-lane, o
 use Rattle.table.proofs.Beacons.{beacon-1024-passes, beacon-1025-refused, lane-3-not-there, roll-passes, roll-refused}
 
 pub refusalBench : RefusalBench
-unfolding anyBelow frameOf bytesOf badEntries frameRefusal readRefusal placeRefusal placed airWith stampUnder withStamp raised raisedBelow newer newestBelow newestEntries kept ticked ownTaken raisedPost taken allBelow isLogged isDue dueBelow insertKey sort duePlaces dueLog delivered orderRefusalBy strangeEntries hearRefusalBy orderSent orderStep hearTaken hearStep freshYard framesAfter postOrders postOrdersAir firstAfter yardOrders yardOrdersAir postHears postHearsAir yardHears yardHearsAir postBeacons postBeaconsAir yardBeacons yardBeaconsAir single rollRefusal rollCall rollCallAir answer step run ordersSentBy0
+unfolding anyBelow frameOf bytesOf badEntries frameRefusal readRefusal placeRefusal placed airWith stampUnder withStamp raised raisedBelow newer newestBelow newestEntries kept ticked ownTaken raisedPost taken allBelow isLogged isDue dueBelow comesBefore insertBy sortBy duePlaces dueLog delivered orderRefusal strangeEntries hearRefusal orderSent orderStep hearTaken hearStep freshYard framesAfter postOrders postOrdersAir firstAfter yardOrders yardOrdersAir postHears postHearsAir yardHears yardHearsAir postBeacons postBeaconsAir yardBeacons yardBeaconsAir single rollRefusal rollCall rollCallAir answer step run ordersSentBy0
 refusalBench = record {
   order-4 = order-lane (run three began) 1;
   hear-4 = hear-lane (run three began) 0;

@@ -7,16 +7,16 @@ use Rattle.frame.specs.ReadWrite.{writeRefusal, readOf, written}
 use Rattle.cells.specs.Tables.{stampUnder, withStamp}
 use Rattle.post.specs.Newest.{raised, raisedBelow, newer, newestBelow, newestEntries}
 use Rattle.post.specs.Taking.{kept, ticked, ownTaken, raisedPost, taken}
-use Rattle.deliver.specs.Delivery.{allBelow, isLogged, isDue, dueBelow, insertKey, sort, duePlaces, dueLog, delivered}
+use Rattle.deliver.specs.Delivery.{allBelow, isLogged, isDue, dueBelow, comesBefore, insertBy, sortBy, duePlaces, dueLog, delivered}
 use Rattle.judge.specs.Judgement.{badOrders, badLog, badRecord}
-use Rattle.steps.specs.Refusals.{orderRefusalBy, strangeEntries, hearRefusalBy}
+use Rattle.steps.specs.Refusals.{orderRefusal, strangeEntries, hearRefusal}
 use Rattle.steps.specs.Steps.{orderSent, hearTaken, hearOther, hearStep}
 use Rattle.single.specs.Single.{orderRefusalSingly, orderSingly, orderBuffer, hearRefusalSingly, hearSingly, hearBuffer}
 use Rattle.table.specs.Posts.{ordersSent}
 use Rattle.table.specs.Cases.{Bench}
 
 pub bench : Bench
-unfolding anyBelow frameOf bytesOf badEntries frameRefusal readRefusal writeRefusal readOf written stampUnder withStamp raised raisedBelow newer newestBelow newestEntries kept ticked ownTaken raisedPost taken allBelow isLogged isDue dueBelow insertKey sort duePlaces dueLog delivered badOrders badLog badRecord orderRefusalBy strangeEntries hearRefusalBy orderSent hearTaken hearOther hearStep orderRefusalSingly orderSingly orderBuffer hearRefusalSingly hearSingly hearBuffer ordersSent
+unfolding anyBelow frameOf bytesOf badEntries frameRefusal readRefusal writeRefusal readOf written stampUnder withStamp raised raisedBelow newer newestBelow newestEntries kept ticked ownTaken raisedPost taken allBelow isLogged isDue dueBelow comesBefore insertBy sortBy duePlaces dueLog delivered badOrders badLog badRecord orderRefusal strangeEntries hearRefusal orderSent hearTaken hearOther hearStep orderRefusalSingly orderSingly orderBuffer hearRefusalSingly hearSingly hearBuffer ordersSent
 bench = record {
   P2-written = refl;
   P2-read = refl;

@@ -8,8 +8,8 @@ use Rattle.air.specs.Air.{placeRefusal, placed, airWith}
 use Rattle.cells.specs.Tables.{stampUnder, withStamp}
 use Rattle.post.specs.Newest.{raised, raisedBelow, newer, newestBelow, newestEntries}
 use Rattle.post.specs.Taking.{kept, ticked, ownTaken, raisedPost, taken}
-use Rattle.deliver.specs.Delivery.{allBelow, isLogged, isDue, dueBelow, insertKey, sort, duePlaces, dueLog, delivered}
-use Rattle.steps.specs.Refusals.{orderRefusalBy, strangeEntries, hearRefusalBy}
+use Rattle.deliver.specs.Delivery.{allBelow, isLogged, isDue, dueBelow, comesBefore, insertBy, sortBy, duePlaces, dueLog, delivered}
+use Rattle.steps.specs.Refusals.{orderRefusal, strangeEntries, hearRefusal}
 use Rattle.steps.specs.Steps.{orderSent, orderStep, hearTaken, hearOther, hearStep, beaconStep}
 use Rattle.yard.specs.Yards.{freshYard}
 use Rattle.yard.specs.Singles.{framesAfter, postOrders, postOrdersAir, firstAfter, yardOrders, yardOrdersAir, postHears, postHearsAir, yardHears, yardHearsAir, postBeacons, postBeaconsAir, yardBeacons, yardBeaconsAir}
@@ -21,7 +21,7 @@ use Rattle.table.specs.Scripts.{answers}
 use Rattle.table.specs.YardCases.{YardBench}
 
 pub yardBench : YardBench
-unfolding anyBelow frameOf bytesOf badEntries frameRefusal readRefusal placeRefusal placed airWith stampUnder withStamp raised raisedBelow newer newestBelow newestEntries kept ticked ownTaken raisedPost taken allBelow isLogged isDue dueBelow insertKey sort duePlaces dueLog delivered orderRefusalBy strangeEntries hearRefusalBy orderSent orderStep hearTaken hearOther hearStep beaconStep freshYard framesAfter postOrders postOrdersAir firstAfter yardOrders yardOrdersAir postHears postHearsAir yardHears yardHearsAir postBeacons postBeaconsAir yardBeacons yardBeaconsAir single singles laneHears lanesHears postsHear beaconsSent sourcesBelow beaconsHeard postsHearBeacons rollSteps rollRefusal rollCall rollCallAir answer step run orderSentBy sentBy sent insertOrder inOrder ones answers
+unfolding anyBelow frameOf bytesOf badEntries frameRefusal readRefusal placeRefusal placed airWith stampUnder withStamp raised raisedBelow newer newestBelow newestEntries kept ticked ownTaken raisedPost taken allBelow isLogged isDue dueBelow comesBefore insertBy sortBy duePlaces dueLog delivered orderRefusal strangeEntries hearRefusal orderSent orderStep hearTaken hearOther hearStep beaconStep freshYard framesAfter postOrders postOrdersAir firstAfter yardOrders yardOrdersAir postHears postHearsAir yardHears yardHearsAir postBeacons postBeaconsAir yardBeacons yardBeaconsAir single singles laneHears lanesHears postsHear beaconsSent sourcesBelow beaconsHeard postsHearBeacons rollSteps rollRefusal rollCall rollCallAir answer step run orderSentBy sentBy sent insertOrder inOrder ones answers
 yardBench = record {
   P1-answers = refl;
   P1-printout = refl;

@@ -19,8 +19,8 @@ add-spent c =
 
 returns-2 : tie.Need-returns-2
 returns-2 c = (
-  (λ last stamps words log. post-beacon-runs _ _ _ _ _ _ _ _ _ _ _ (c .before .before .before .before .before .before .before .before .before .has .ensures) (c .before .before .before .before .before .before .before .before .before .before .pick .ensures) (c .before .before .before .before .before .before .before .before .pick2 .ensures) (c .before .before .before .before .before .before .before .pick3 .ensures) (c .before .before .before .before .before .before .if1 .left) (c .before .before .before .before .before .beacon-in .ensures last stamps words log) (c .before .before .broadcast .ensures .0) (c .before .before .broadcast .ensures .1) .0),
-  (λ last stamps words log. post-beacon-runs _ _ _ _ _ _ _ _ _ _ _ (c .before .before .before .before .before .before .before .before .before .has .ensures) (c .before .before .before .before .before .before .before .before .before .before .pick .ensures) (c .before .before .before .before .before .before .before .before .pick2 .ensures) (c .before .before .before .before .before .before .before .pick3 .ensures) (c .before .before .before .before .before .before .if1 .left) (c .before .before .before .before .before .beacon-in .ensures last stamps words log) (c .before .before .broadcast .ensures .0) (c .before .before .broadcast .ensures .1) .1),
+  (λ last stamps words log. post-beacon-runs _ _ _ _ _ _ _ _ _ _ _ (c .before .before .before .before .before .before .before .before .before .has .ensures) (c .before .before .before .before .before .before .before .before .before .before .pick .ensures) (c .before .before .before .before .before .before .before .before .pick2 .ensures) (c .before .before .before .before .before .before .before .pick3 .ensures) (c .before .before .before .before .before .before .if1 .left) (c .before .before .before .before .before .beacon-in .ensures .0 last stamps words log) (c .before .before .broadcast .ensures .0) (c .before .before .broadcast .ensures .1) .0),
+  (λ last stamps words log. post-beacon-runs _ _ _ _ _ _ _ _ _ _ _ (c .before .before .before .before .before .before .before .before .before .has .ensures) (c .before .before .before .before .before .before .before .before .before .before .pick .ensures) (c .before .before .before .before .before .before .before .before .pick2 .ensures) (c .before .before .before .before .before .before .before .pick3 .ensures) (c .before .before .before .before .before .before .if1 .left) (c .before .before .before .before .before .beacon-in .ensures .0 last stamps words log) (c .before .before .broadcast .ensures .0) (c .before .before .broadcast .ensures .1) .1),
 )
 
 pub beacon-spec : {M : Type 1} → statement M

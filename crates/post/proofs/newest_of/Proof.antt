@@ -15,4 +15,4 @@ returns-2 : tie.Need-returns-2
 returns-2 c = newest-found _ _ _ _ _ refl (ap (λ s. s .0) (c .before .before .before .before .greatest .ensures)) (omega arith) (ap (λ s. s .0) (c .last-under .ensures))
 
 pub newest-of-spec : {M : Type 1} → statement M
-newest-of-spec = tie.close (tie.spec (λ c. search needs) (λ c κs. search needs) (λ c κs. search needs) last-under-requires returns returns-2)
+newest-of-spec = tie.close (tie.spec (λ c. search needs) (λ c. search needs) (λ c κs. search needs) (λ c κs. tt) last-under-requires returns returns-2)

@@ -23,13 +23,13 @@ returns-3 c =
 returns-4 : tie.Need-returns-4
 returns-4 c =
     let run = runs (c .before .before .before .before .before .before .before .before .before .before .before .before .before .before .before .before .before .before .args .p) (c .before .before .before .before .before .before .before .before .before .before .before .before .before .before .before .before .before .before .args .bytes .now) (c .before .before .before .before .before .before .before .before .before .before .before .before .before .before .before .before .before .before .args .buffer .now) _ _ (omega arith) (c .before .before .before .before .before .before .before .before .before .before .before .before .before .before .read .ensures .0) (c .before .before .before .before .before .before .before .before .before .before .before .before .if2 .left) (c .before .before .before .before .before .before .before .before .before .before .before .refusal .ensures) (c .before .before .before .before .before .before .before .before .before .before .if3 .left) in
-    let r = hear-writes (c .before .before .before .before .before .before .before .before .before .before .before .before .before .before .before .before .before .before .args .p) (c .before .before .before .before .before .before .before .before .before .before .before .before .before .before .before .before .before .before .args .bytes .now) (c .before .before .before .before .before .before .before .before .before .before .before .before .before .before .before .before .before .before .args .buffer .now) _ _ _ run (omega arith) (c .before .before .before .before .before .before .before .before .hear .ensures) (c .before .before .before .before .if4 .taken) (c .before .before .write .ensures .1 .0) in
+    let r = hear-writes (c .before .before .before .before .before .before .before .before .before .before .before .before .before .before .before .before .before .before .args .p) (c .before .before .before .before .before .before .before .before .before .before .before .before .before .before .before .before .before .before .args .bytes .now) (c .before .before .before .before .before .before .before .before .before .before .before .before .before .before .before .before .before .before .args .buffer .now) _ _ _ run (omega arith) (c .before .before .before .before .before .before .before .before .hear .ensures .0) (c .before .before .before .before .if4 .taken) (c .before .before .write .ensures .1 .0) in
     (r .0, (r .1, hear-tells _ _ _ _ (r .0)))
 
 returns-5 : tie.Need-returns-5
 returns-5 c =
     let run = runs (c .before .before .before .before .before .before .before .before .before .before .before .before .before .before .args .p) (c .before .before .before .before .before .before .before .before .before .before .before .before .before .before .args .bytes .now) (c .before .before .before .before .before .before .before .before .before .before .before .before .before .before .args .buffer .now) _ _ (omega arith) (c .before .before .before .before .before .before .before .before .before .before .read .ensures .0) (c .before .before .before .before .before .before .before .before .if2 .left) (c .before .before .before .before .before .before .before .refusal .ensures) (c .before .before .before .before .before .before .if3 .left) in
-    let r = hear-passes (c .before .before .before .before .before .before .before .before .before .before .before .before .before .before .args .p) (c .before .before .before .before .before .before .before .before .before .before .before .before .before .before .args .bytes .now) (c .before .before .before .before .before .before .before .before .before .before .before .before .before .before .args .buffer .now) _ _ run (c .before .before .before .before .hear .ensures) (c .if4 .left) in
+    let r = hear-passes (c .before .before .before .before .before .before .before .before .before .before .before .before .before .before .args .p) (c .before .before .before .before .before .before .before .before .before .before .before .before .before .before .args .bytes .now) (c .before .before .before .before .before .before .before .before .before .before .before .before .before .before .args .buffer .now) _ _ run (c .before .before .before .before .hear .ensures .0) (c .if4 .left) in
     (r .0, (r .1, hear-tells _ _ _ _ (r .0)))
 
 pub hear-spec : {M : Type 1} → statement M

@@ -6,7 +6,7 @@ use Rattle.steps.proofs.hear_in.Statement.{statement}
 use Rattle.steps.proofs.hear_in.Tie as tie
 
 take-requires : tie.Need-take-requires
-take-requires c κs = can-pass (postOf (c .before .before .before .before .before .before .before .before .before .before .before .before .before .args .h) [] [] [] [] []) _ _ _ (sym (c .before .before .before .before .before .before .before .refusal .ensures) ∙ c .before .before .before .before .before .before .if1 .left) (sym (c .before .before .before .before .before .is-next .ensures) ∙ c .before .before .before .before .if2 .taken)
+take-requires c κs = let a = c .before .before .before .before .before .before .before .before .before .before .before .before .before .args in can-pass (postOf (a .h) (a .last .now) (a .table .now) (a .stamps .now) (a .words .now) []) _ _ _ _ _ _ (c .before .before .before .before .before .before .before .before .before .before .before .last-taken .ensures) (c .before .before .before .before .before .before .before .before .before .order-place .ensures) (c .before .before .before .before .before .before .before .before .stamp-at .ensures) (c .before .before .before .before .before .before .before .refusal .ensures) (c .before .before .before .before .before .before .if1 .left) (c .before .before .before .before .before .is-next .ensures) (c .before .before .before .before .if2 .taken)
 
 returns : tie.Need-returns
 returns c = let a = c .before .before .before .before .before .before .before .before .args in rw (c .unsent .ensures) (each (λ log. hear-stays (postOf (a .h) (a .last .now) (a .table .now) (a .stamps .now) (a .words .now) log) _ _ _ _ _ (c .before .before .before .before .before .before .last-taken .ensures) (c .before .before .before .before .order-place .ensures) (c .before .before .before .stamp-at .ensures) (c .before .before .refusal .ensures) (c .before .if1 .taken)))

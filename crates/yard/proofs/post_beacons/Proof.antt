@@ -14,7 +14,7 @@ add-spent c =
     rw add-one (fits-suc h (fits-lit tt))
 
 returns-2 : tie.Need-returns-2
-returns-2 c = post-beacon-runs _ _ _ _ _ _ _ _ _ _ _ (c .before .before .before .before .before .before .before .before .before .has .ensures) (c .before .before .before .before .before .before .before .before .before .before .pick .ensures) (c .before .before .before .before .before .before .before .before .pick2 .ensures) (c .before .before .before .before .before .before .before .pick3 .ensures) (c .before .before .before .before .before .before .if1 .left) (c .before .before .before .before .before .beacon .ensures) (c .before .before .broadcast .ensures .0) (c .before .before .broadcast .ensures .1)
+returns-2 c = post-beacon-runs _ _ _ _ _ _ _ _ _ _ _ (c .before .before .before .before .before .before .before .before .before .has .ensures) (c .before .before .before .before .before .before .before .before .before .before .pick .ensures) (c .before .before .before .before .before .before .before .before .pick2 .ensures) (c .before .before .before .before .before .before .before .pick3 .ensures) (c .before .before .before .before .before .before .if1 .left) (c .before .before .before .before .before .beacon .ensures .0) (c .before .before .broadcast .ensures .0) (c .before .before .broadcast .ensures .1)
 
 pub post-beacons-spec : {M : Type 1} → statement M
 post-beacons-spec = tie.close (tie.spec (λ c κs. tt) (λ c κs. tt) (λ c κs. tt) (λ c κs. tt) returns add-spent (λ c κs. tt) (λ c κs. tt) (λ c. c .before .before .broadcast .kept .0) returns-2)

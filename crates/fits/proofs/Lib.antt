@@ -10,3 +10,5 @@ pub mod FirstLine
 pub mod Ends
 pub mod Theorem
 pub mod Printed
+pub mod AirsAlike
+pub mod AirBefore

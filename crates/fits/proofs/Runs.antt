@@ -38,7 +38,7 @@ use Rattle.fits.proofs.ScriptCounts.{ordersOf}
 -- ---- the lines as a list of steps
 
 -- a list of steps and then another
-run-append : (w : World) (l m : List Step) → run w (l ++ m) ≡ run (run w l) m
+pub run-append : (w : World) (l m : List Step) → run w (l ++ m) ≡ run (run w l) m
 unfolding run
 run-append w [] m = refl
 run-append w (x ∷ l) m = run-append (step w x) l m

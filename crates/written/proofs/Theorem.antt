@@ -2,7 +2,7 @@
 use mathlib.Core.Path.{_≡_, refl, sym, ap, ap₂, _∙_}
 use mathlib.Core.Bool.{Bool, true, false, cond}
 use mathlib.Core.List.{List, [], _∷_, _++_}
-use Prim.Native.Nat.{ℕ, zero, suc, _+_, _≤_}
+use Prim.Native.Nat.{ℕ, zero, suc, _+_, _<_, _≤_}
 use native.Mathlib.Omega.{arith}
 use lib.Dec.{ltb, eqb}
 use lib.ListN.{length, drop, take-append-drop, drop-of-length-le}
@@ -21,7 +21,7 @@ use Rattle.written.proofs.Yard.{sound, yard-complete}
 
 -- ---- each line
 
-line-reads : (s : List ℕ) (at : ℕ) (l : Line) → Right at l → Here s at (lineText l) → nextOf s l ≡ at + length (lineText l) → lineAt s at ≡ l
+pub line-reads : (s : List ℕ) (at : ℕ) (l : Line) → Right at l → Here s at (lineText l) → nextOf s l ≡ at + length (lineText l) → lineAt s at ≡ l
 unfolding lineText
 line-reads s at (Yard posts sources dests next) r h e = yard-complete s at posts sources dests next r h ∙ ap (Yard posts sources dests) (sym e)
 line-reads s at (Order lane word next) r h e = order-complete s at lane word (r .0) (r .1) (r .2) h ∙ ap (Order lane word) (sym e)
@@ -37,7 +37,7 @@ line-accepted s at e = let w = sound s at e in (w .0, here-part s (lineText (lin
 
 -- ---- the script
 
-line-some : (at : ℕ) (l : Line) → Right at l → 1 ≤ length (lineText l)
+pub line-some : (at : ℕ) (l : Line) → Right at l → 1 ≤ length (lineText l)
 unfolding lineText
 line-some at (Yard posts sources dests next) r = omega arith
 line-some at (Order lane word next) r = omega arith
@@ -50,7 +50,7 @@ abbrev found : ℕ → ℕ → Judged
 found line number = record { line = line; number = number }
 
 -- the first line is not refused, nor one of the others
-first-passed : (j : ℕ) (l : Line) (ls : List Line) → judgedLines j (l ∷ ls) .number ≡ 0 → (numberOf l ≡ 0) × (judgedLines (j + 1) ls .number ≡ 0)
+pub first-passed : (j : ℕ) (l : Line) (ls : List Line) → judgedLines j (l ∷ ls) .number ≡ 0 → (numberOf l ≡ 0) × (judgedLines (j + 1) ls .number ≡ 0)
 unfolding judgedLines
 first-passed j l ls h = go (eqb (numberOf l) 0) refl h
   where
@@ -80,15 +80,20 @@ rest-is s (suc n) j at h l k =
         ap₂ _++_ (sym (w .1 .1)) (i ∙ ap (λ (m : ℕ). drop m s) (w .2) ∙ sym (drop-drop (length t) at s)) ∙ take-append-drop (length t) (drop at s)
     go false e q f = sym (drop-of-length-le s (ltb-false at (length s) e))
 
-script-is : (s : List ℕ) → judged s .number ≡ 0 → textOf (linesOf s) ≡ s
+-- a script that is not refused is not too long nor empty, and none of its lines is refused
+pub judged-passed : (s : List ℕ) → judged s .number ≡ 0 → (length s ≤ 48000) × (0 < length s) × (judgedLines 0 (linesOf s) .number ≡ 0)
 unfolding judged
-script-is s h = go (ltb 48000 (length s)) (eqb (length s) 0) h
+judged-passed s h = go (ltb 48000 (length s)) refl (eqb (length s) 0) refl h
   where
-    go : (a b : Bool) → cond a (found 0 1) (cond b (found 1 3) (judgedLines 0 (linesOf s))) .number ≡ 0
-        → textOf (linesOf s) ≡ s
-    go true b k = absurd (omega (arith, k))
-    go false true k = absurd (omega (arith, k))
-    go false false k = rest-is s (length s) 0 0 (omega arith) (omega arith) k
+    go : (a : Bool) → ltb 48000 (length s) ≡ a → (b : Bool) → eqb (length s) 0 ≡ b
+        → cond a (found 0 1) (cond b (found 1 3) (judgedLines 0 (linesOf s))) .number ≡ 0
+        → (length s ≤ 48000) × (0 < length s) × (judgedLines 0 (linesOf s) .number ≡ 0)
+    go true p b q k = absurd (omega (arith, k))
+    go false p true q k = absurd (omega (arith, k))
+    go false p false q k = let some = eqb-false (length s) 0 q in (ltb-false 48000 (length s) p, omega arith, k)
+
+script-is : (s : List ℕ) → judged s .number ≡ 0 → textOf (linesOf s) ≡ s
+script-is s h = rest-is s (length s) 0 0 (omega arith) (omega arith) (judged-passed s h .2)
 
 pub exact : Exact
 exact = record { reads = λ s at l r h e. line-reads s at l r (part-here s (lineText l) at h) e; accepts = line-accepted; script = script-is }

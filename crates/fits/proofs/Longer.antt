@@ -1,0 +1,107 @@
+-- A longer script runs, refuses and logs first what its beginning does, proved: `longer`. Assumes nothing.
+use Prim.Native.Nat.{ℕ, _+_, _<_}
+use mathlib.Core.Path.{_≡_, refl, sym, ap, _∙_}
+use mathlib.Core.List.{List, [], _∷_, _++_, append-assoc}
+use mathlib.Core.Bool.{not}
+use mathlib.Core.Logic.{_⊎_, inl, inr, _≢_}
+use native.Mathlib.Omega.{arith}
+use lib.Dec.{eqb}
+use lib.ListN.{length, length-append}
+use Rattle.text.specs.Decimal.{given}
+use Rattle.laws.specs.Lists.{Begins}
+use Rattle.laws.proofs.ListLaws.{begins-itself}
+use Rattle.laws.proofs.TestLaws.{same-or-not}
+use Rattle.lines.specs.declared.Line.{Line}
+use Rattle.lines.specs.Lines.{lineAt, linesOf, judged}
+use Rattle.yard.specs.Yards.{postAt, yardRefusal}
+use Rattle.yard.specs.Worlds.{World}
+use Rattle.yard.specs.declared.Yard.{Yard}
+use Rattle.roll.specs.Runs.{Step, run}
+use Rattle.roll.specs.Logs.{ordersLogged, logAt}
+use Rattle.model.proofs.Model as model
+use Rattle.model.proofs.Moves.{moves, moves-append, moves-log}
+use Rattle.agreement.specs.Demand3 as demand
+use Rattle.agreement.proofs.Views.{rolesOf, yardView}
+use Rattle.agreement.proofs.WrongAir.{never-runs}
+use Rattle.agreement.proofs.Theorem.{ro, reached, good}
+use Rattle.written.proofs.Theorem.{judged-passed}
+use Rattle.written.proofs.LineLists.{rest-more}
+use Rattle.written.proofs.Whole.{whole}
+use Rattle.meaning.specs.Texts.{refusedText}
+use Rattle.meaning.specs.Script.{stepOf, refusalOf, worldAfter, refusedLines, scriptStart, stepLines, scriptWorld}
+use Rattle.fits.specs.Printed.{stepsOf}
+use Rattle.fits.specs.Longer.{Longer, LongerScripts}
+use Rattle.fits.proofs.Runs.{run-append, after-run}
+use Rattle.fits.proofs.Printed.{printed}
+use Rattle.fits.proofs.AirBefore.{script-twins, refused-same}
+
+-- ---- lines and then more lines
+
+steps-append : (ls ms : List Line) → stepsOf (ls ++ ms) ≡ stepsOf ls ++ stepsOf ms
+unfolding stepsOf
+steps-append [] ms = refl
+steps-append (l ∷ ls) ms = rw (steps-append ls ms) (sym (append-assoc (stepOf l) (stepsOf ls) (stepsOf ms)))
+
+after-append : (w : World) (ls ms : List Line) → worldAfter w (ls ++ ms) ≡ worldAfter (worldAfter w ls) ms
+unfolding worldAfter
+after-append w [] ms = refl
+after-append w (l ∷ ls) ms = after-append (run w (stepOf l)) ls ms
+
+refused-append : (w : World) (n : ℕ) (ls ms : List Line) → Begins (refusedLines w n ls) (refusedLines w n (ls ++ ms))
+unfolding refusedLines
+refused-append w n [] ms = (refusedLines w n ms, refl)
+refused-append w n (l ∷ ls) ms =
+    let more = refused-append (run w (stepOf l)) (n + 1) ls ms in
+    let here = given (not (eqb (refusalOf w (stepOf l)) 0)) (refusedText (n + 1) (refusalOf w (stepOf l))) in
+    (more .0, rw (more .1) (sym (append-assoc here (refusedLines (run w (stepOf l)) (n + 1) ls) (more .0))))
+
+-- ---- the lines of a longer script
+
+abbrev first : Line → List Line → Line
+first other [] = other
+first other (l ∷ ls) = l
+
+abbrev others : List Line → List Line
+others [] = []
+others (l ∷ ls) = ls
+
+-- line 1 is the same, and the other lines begin with those of the beginning
+lines-longer : (s more : List ℕ) → judged s .number ≡ 0
+    → (lineAt (s ++ more) 0 ≡ lineAt s 0) × Begins (stepLines s) (stepLines (s ++ more))
+lines-longer s more z =
+    let some = judged-passed s z .1 in
+    let n = length-append s more in
+    let r = whole .longer s more z in
+    let all : lineAt (s ++ more) 0 ∷ stepLines (s ++ more) ≡ lineAt s 0 ∷ (stepLines s ++ r .0) =
+    sym (rest-more (s ++ more) 0 (omega arith)) ∙ r .1 ∙ ap (λ (ls : List Line). ls ++ r .0) (rest-more s 0 some) in
+    (ap (first (lineAt s 0)) all, (r .0, ap others all))
+
+-- ---- logs grow
+
+module _ (present sources dests : ℕ) (air : List ℕ) (small : present < 256) (smallSources : sources < 256) (smallDests : dests < 256)
+    (z : yardRefusal present sources dests ≡ 0) where
+  abbrev w : World
+  w = demand.freshWorld present sources dests air
+
+  whole-air : length air ≡ 65536 → (l m : List Step) (lane : ℕ) → Begins (logAt (run w l) lane) (logAt (run w (l ++ m)) lane)
+  whole-air e l m lane =
+      rw (ap (λ (Y : model.Yard). Y .posts lane .log) then)
+      (moves-log R (ro present sources dests air small smallSources smallDests z e) (yardView (run w l)) _ (good present sources dests air small smallSources smallDests z e l) m lane)
+    where
+      R : model.Roles
+      R = rolesOf present sources dests
+
+      then : yardView (run w (l ++ m)) ≡ moves R (yardView (run w l)) m
+      then = reached present sources dests air small smallSources smallDests z e (l ++ m) .view
+          ∙ moves-append R (yardView w) l m
+          ∙ ap (λ (Y : model.Yard). moves R Y m) (sym (reached present sources dests air small smallSources smallDests z e l .view))
+
+  other-air : length air ≢ 65536 → (l m : List Step) (lane : ℕ) → Begins (logAt (run w l) lane) (logAt (run w (l ++ m)) lane)
+  other-air n l m lane = rw (never-runs w n l, never-runs w n (l ++ m)) (begins-itself (logAt w lane))
+
+  logs-grow : (l m : List Step) (lane : ℕ) → Begins (logAt (run w l) lane) (logAt (run w (l ++ m)) lane)
+  logs-grow l m lane = go (same-or-not (length air) 65536)
+    where
+      go : (length air ≡ 65536) ⊎ (length air ≢ 65536) → Begins (logAt (run w l) lane) (logAt (run w (l ++ m)) lane)
+      go (inl e) = whole-air e l m lane
+      go (inr n) = other-air n l m lane

@@ -131,9 +131,13 @@ module _ (s a b : List ℕ) (e : length a ≡ length b) where
   unfolding scriptWorld
   script-twins = lines-twins (scriptStart s a) (scriptStart s b) start-twins (stepLines s)
 
+  -- and what it prints of refused steps
+  pub refused-same : refusedLines (scriptStart s a) 1 (stepLines s) ≡ refusedLines (scriptStart s b) 1 (stepLines s)
+  refused-same = refused-twins (scriptStart s a) (scriptStart s b) start-twins 1 (stepLines s)
+
   text-same : scriptText s a ≡ scriptText s b
   unfolding scriptText
-  text-same = rw (refused-twins (scriptStart s a) (scriptStart s b) start-twins 1 (stepLines s), script-twins .0) refl
+  text-same = rw (refused-same, script-twins .0) refl
 
   printout-same : printout s a ≡ printout s b
   unfolding printout

@@ -12,3 +12,4 @@ pub mod Theorem
 pub mod Printed
 pub mod AirsAlike
 pub mod AirBefore
+pub mod Longer

@@ -12,10 +12,10 @@ use Rattle.laws.specs.Lists.{Begins}
 use Rattle.laws.proofs.ListLaws.{begins-itself}
 use Rattle.laws.proofs.TestLaws.{same-or-not}
 use Rattle.lines.specs.declared.Line.{Line}
+use Rattle.lines.specs.declared.Line.the-variants.{Yard}
 use Rattle.lines.specs.Lines.{lineAt, linesOf, judged}
 use Rattle.yard.specs.Yards.{postAt, yardRefusal}
 use Rattle.yard.specs.Worlds.{World}
-use Rattle.yard.specs.declared.Yard.{Yard}
 use Rattle.roll.specs.Runs.{Step, run}
 use Rattle.roll.specs.Logs.{ordersLogged, logAt}
 use Rattle.model.proofs.Model as model
@@ -31,6 +31,7 @@ use Rattle.meaning.specs.Texts.{refusedText}
 use Rattle.meaning.specs.Script.{stepOf, refusalOf, worldAfter, refusedLines, scriptStart, stepLines, scriptWorld}
 use Rattle.fits.specs.Printed.{stepsOf}
 use Rattle.fits.specs.Longer.{Longer, LongerScripts}
+use Rattle.fits.proofs.LineLengths.{accepted}
 use Rattle.fits.proofs.Runs.{run-append, after-run}
 use Rattle.fits.proofs.Printed.{printed}
 use Rattle.fits.proofs.AirBefore.{script-twins, refused-same}
@@ -105,3 +106,65 @@ module _ (present sources dests : ℕ) (air : List ℕ) (small : present < 256) 
       go : (length air ≡ 65536) ⊎ (length air ≢ 65536) → Begins (logAt (run w l) lane) (logAt (run w (l ++ m)) lane)
       go (inl e) = whole-air e l m lane
       go (inr n) = other-air n l m lane
+
+-- ---- on one air
+
+module _ (s more air : List ℕ) (z : judged s .number ≡ 0) where
+  t : List ℕ
+  t = s ++ more
+
+  lines : (lineAt t 0 ≡ lineAt s 0) × Begins (stepLines s) (stepLines t)
+  unfolding t
+  lines = lines-longer s more z
+
+  start-same : scriptStart t air ≡ scriptStart s air
+  start-same = rw (lines .0) refl
+
+  -- the steps after those of s
+  on : List Step
+  on = stepsOf (lines .1 .0)
+
+  steps-begin : Begins (stepsOf (stepLines s)) (stepsOf (stepLines t))
+  unfolding on
+  steps-begin = (on, ap stepsOf (lines .1 .1) ∙ steps-append (stepLines s) (lines .1 .0))
+
+  refused-begin : Begins (refusedLines (scriptStart s air) 1 (stepLines s)) (refusedLines (scriptStart t air) 1 (stepLines t))
+  refused-begin = rw (start-same, lines .1 .1) (refused-append (scriptStart s air) 1 (stepLines s) (lines .1 .0))
+
+  -- the longer script runs on where s ended
+  runs-on : scriptWorld t air ≡ run (scriptWorld s air) on
+  unfolding scriptWorld on
+  runs-on =
+      ap (λ (v : World). worldAfter v (stepLines t)) start-same
+      ∙ ap (worldAfter (scriptStart s air)) (lines .1 .1)
+      ∙ after-append (scriptStart s air) (stepLines s) (lines .1 .0)
+      ∙ after-run (scriptWorld s air) (lines .1 .0)
+
+  logs-begin : (lane : ℕ) → Begins (logAt (scriptWorld s air) lane) (logAt (scriptWorld t air) lane)
+  logs-begin lane =
+      let p = printed s air z in
+      let r = accepted s 0 (Yard (p .0) (p .1) (p .2) (p .3)) (p .4) refl .0 in
+      let fresh = demand.freshWorld (p .0) (p .1) (p .2) air in
+      rw (runs-on, p .6, ← run-append fresh (stepsOf (stepLines s)) on)
+      (logs-grow (p .0) (p .1) (p .2) air (r .2) (r .3) (r .4) (p .5) (stepsOf (stepLines s)) on lane)
+
+  logs-agree : (a b : ℕ) → Begins (logAt (scriptWorld s air) a) (logAt (scriptWorld t air) b) ⊎ Begins (logAt (scriptWorld t air) b) (logAt (scriptWorld s air) a)
+  logs-agree a b =
+      let p = printed s air z in
+      let fresh = demand.freshWorld (p .0) (p .1) (p .2) air in
+      rw (runs-on, p .6, ← run-append fresh (stepsOf (stepLines s)) on) (p .7 .agree (stepsOf (stepLines s)) on a b)
+
+-- ---- on two airs of one length
+
+pub longer : LongerScripts
+unfolding t
+longer s more air other z e =
+    let t = s ++ more in
+    let yard = script-twins t air other e .0 in
+    record {
+      yard = lines s more air z .0;
+      steps = steps-begin s more air z;
+      refused = rw (← refused-same t air other e) (refused-begin s more air z);
+      grows = λ lane. rw (← yard) (logs-begin s more air z lane);
+      agree = λ a b. rw (← yard) (logs-agree s more air z a b);
+    }

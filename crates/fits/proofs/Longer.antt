@@ -1,4 +1,4 @@
--- A longer script runs, refuses and logs first what its beginning does, proved: `longer`. Assumes nothing.
+-- A longer script runs, refuses and logs first what its beginning does, proved: `longer-scripts`. Assumes nothing.
 use Prim.Native.Nat.{ℕ, _+_, _<_}
 use mathlib.Core.Path.{_≡_, refl, sym, ap, _∙_}
 use mathlib.Core.List.{List, [], _∷_, _++_, append-assoc}
@@ -13,24 +13,23 @@ use Rattle.laws.proofs.ListLaws.{begins-itself}
 use Rattle.laws.proofs.TestLaws.{same-or-not}
 use Rattle.lines.specs.declared.Line.{Line}
 use Rattle.lines.specs.declared.Line.the-variants.{Yard}
-use Rattle.lines.specs.Lines.{lineAt, linesOf, judged}
-use Rattle.yard.specs.Yards.{postAt, yardRefusal}
+use Rattle.lines.specs.Lines.{lineAt, judged}
+use Rattle.yard.specs.Yards.{yardRefusal}
 use Rattle.yard.specs.Worlds.{World}
 use Rattle.roll.specs.Runs.{Step, run}
-use Rattle.roll.specs.Logs.{ordersLogged, logAt}
+use Rattle.roll.specs.Logs.{logAt}
 use Rattle.model.proofs.Model as model
 use Rattle.model.proofs.Moves.{moves, moves-append, moves-log}
 use Rattle.agreement.specs.Demand3 as demand
 use Rattle.agreement.proofs.Views.{rolesOf, yardView}
 use Rattle.agreement.proofs.WrongAir.{never-runs}
 use Rattle.agreement.proofs.Theorem.{ro, reached, good}
-use Rattle.written.proofs.Theorem.{judged-passed}
 use Rattle.written.proofs.LineLists.{rest-more}
-use Rattle.written.proofs.Whole.{whole}
+use Rattle.written.proofs.WholeScripts.{judged-passed, whole-scripts}
 use Rattle.meaning.specs.Texts.{refusedText}
 use Rattle.meaning.specs.Script.{stepOf, refusalOf, worldAfter, refusedLines, scriptStart, stepLines, scriptWorld}
 use Rattle.fits.specs.Printed.{stepsOf}
-use Rattle.fits.specs.Longer.{Longer, LongerScripts}
+use Rattle.fits.specs.Longer.{LongerScripts}
 use Rattle.fits.proofs.LineLengths.{accepted}
 use Rattle.fits.proofs.Runs.{run-append, after-run}
 use Rattle.fits.proofs.Printed.{printed}
@@ -72,7 +71,7 @@ lines-longer : (s more : List ℕ) → judged s .number ≡ 0
 lines-longer s more z =
     let some = judged-passed s z .1 in
     let n = length-append s more in
-    let r = whole .longer s more z in
+    let r = whole-scripts .longer s more z in
     let all : lineAt (s ++ more) 0 ∷ stepLines (s ++ more) ≡ lineAt s 0 ∷ (stepLines s ++ r .0) =
     sym (rest-more (s ++ more) 0 (omega arith)) ∙ r .1 ∙ ap (λ (ls : List Line). ls ++ r .0) (rest-more s 0 some) in
     (ap (first (lineAt s 0)) all, (r .0, ap others all))
@@ -156,9 +155,9 @@ module _ (s more air : List ℕ) (z : judged s .number ≡ 0) where
 
 -- ---- on two airs of one length
 
-pub longer : LongerScripts
+pub longer-scripts : LongerScripts
 unfolding t
-longer s more air other z e =
+longer-scripts s more air other z e =
     let t = s ++ more in
     let yard = script-twins t air other e .0 in
     record {

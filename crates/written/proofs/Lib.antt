@@ -12,4 +12,4 @@ pub mod PostsComplete
 pub mod Yard
 pub mod Theorem
 pub mod LineLists
-pub mod Whole
+pub mod WholeScripts

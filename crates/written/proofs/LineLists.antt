@@ -9,8 +9,7 @@ use lib.ListN.{length}
 use borrow.Author.Tests.{ltb-true, lt-ltb, le-ltb}
 use Rattle.lines.specs.declared.Line.{Line}
 use Rattle.lines.specs.declared.Line.the-variants.{Yard, Order, Hear, Beacon, Roll, Refused}
-use Rattle.lines.specs.Lines.{lineAt, numberOf, nextOf, linesFrom, linesOf}
-use Rattle.written.specs.Written.{lineText, Right}
+use Rattle.lines.specs.Lines.{lineAt, numberOf, nextOf, linesFrom}
 use Rattle.written.proofs.Theorem.{exact, line-some}
 
 -- the line at a place

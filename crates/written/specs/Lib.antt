@@ -1,3 +1,3 @@
 pub mod Written
 pub mod Exact
-pub mod Whole
+pub mod WholeScripts

@@ -7,7 +7,11 @@ use Rattle.lines.specs.declared.Line.{Line}
 use Rattle.lines.specs.declared.Line.the-variants.{Yard, Order, Hear, Beacon, Roll, Refused}
 use Rattle.lines.specs.Lines.{linesOf, judged}
 use Rattle.written.specs.Written.{lineText, Right}
-use Rattle.written.specs.Exact.{textOf}
+
+-- the texts of lines, one after another
+unfoldable pub textOf : List Line → List ℕ
+textOf [] = []
+textOf (l ∷ ls) = lineText l ++ textOf ls
 
 -- a line, and where the line after it begins
 abbrev pub followedAt : ℕ → Line → Line
@@ -28,12 +32,12 @@ abbrev pub RightSteps : List Line → Type 0
 RightSteps [] = Unit {0}
 RightSteps (l ∷ ls) = Right 1 l × RightSteps ls
 
-pub record Whole : Type 0 where
-  -- a yard line and steps, each as it may stand, written one after another within 48,000 bytes: accepted, and read as they are
-  pub accepts : (yard : Line) (steps : List Line) → Right 0 yard → RightSteps steps → length (textOf (yard ∷ steps)) ≤ 48000
+pub record WholeScripts : Type 0 where
+  -- a yard line and steps, each as it may stand, written one after another within 48,000 bytes: accepted, and read as these lines in turn
+  pub reads : (yard : Line) (steps : List Line) → Right 0 yard → RightSteps steps → length (textOf (yard ∷ steps)) ≤ 48000
       → (judged (textOf (yard ∷ steps)) .number ≡ 0) × (linesOf (textOf (yard ∷ steps)) ≡ laid 0 (yard ∷ steps))
-  -- a script that is not refused is such a text, of the lines that are read
-  pub only : (s : List ℕ) → judged s .number ≡ 0
+  -- a script that is not refused is such a text: that of the lines read
+  pub accepts : (s : List ℕ) → judged s .number ≡ 0
       → (yard : Line) × (steps : List Line) × Right 0 yard × RightSteps steps × (length s ≤ 48000)
       × (textOf (yard ∷ steps) ≡ s) × (linesOf s ≡ yard ∷ steps) × (laid 0 (yard ∷ steps) ≡ yard ∷ steps)
   -- the lines of a longer script begin with those of its beginning

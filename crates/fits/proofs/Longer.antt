@@ -24,7 +24,7 @@ use Rattle.agreement.specs.Demand3 as demand
 use Rattle.agreement.proofs.Views.{rolesOf, yardView}
 use Rattle.agreement.proofs.WrongAir.{never-runs}
 use Rattle.agreement.proofs.Theorem.{ro, reached, good}
-use Rattle.written.proofs.LineLists.{rest-more}
+use Rattle.written.proofs.LineLists.{lines-more}
 use Rattle.written.proofs.WholeScripts.{judged-passed, whole-scripts}
 use Rattle.meaning.specs.Texts.{refusedText}
 use Rattle.meaning.specs.Script.{stepOf, refusalOf, worldAfter, refusedLines, scriptStart, stepLines, scriptWorld}
@@ -32,7 +32,7 @@ use Rattle.fits.specs.Printed.{stepsOf}
 use Rattle.fits.specs.Longer.{LongerScripts}
 use Rattle.fits.proofs.LineLengths.{accepted}
 use Rattle.fits.proofs.Runs.{run-append, after-run}
-use Rattle.fits.proofs.Printed.{printed}
+use Rattle.fits.proofs.Printed.{printed, same-parts}
 use Rattle.fits.proofs.AirBefore.{script-twins, refused-same}
 
 -- ---- lines and then more lines
@@ -57,14 +57,6 @@ refused-append w n (l ∷ ls) ms =
 
 -- ---- the lines of a longer script
 
-abbrev first : Line → List Line → Line
-first other [] = other
-first other (l ∷ ls) = l
-
-abbrev others : List Line → List Line
-others [] = []
-others (l ∷ ls) = ls
-
 -- line 1 is the same, and the other lines begin with those of the beginning
 lines-longer : (s more : List ℕ) → judged s .number ≡ 0
     → (lineAt (s ++ more) 0 ≡ lineAt s 0) × Begins (stepLines s) (stepLines (s ++ more))
@@ -72,9 +64,9 @@ lines-longer s more z =
     let some = judged-passed s z .1 in
     let n = length-append s more in
     let r = whole-scripts .longer s more z in
-    let all : lineAt (s ++ more) 0 ∷ stepLines (s ++ more) ≡ lineAt s 0 ∷ (stepLines s ++ r .0) =
-    sym (rest-more (s ++ more) 0 (omega arith)) ∙ r .1 ∙ ap (λ (ls : List Line). ls ++ r .0) (rest-more s 0 some) in
-    (ap (first (lineAt s 0)) all, (r .0, ap others all))
+    let e = same-parts (lineAt (s ++ more) 0) (lineAt s 0) (stepLines (s ++ more)) (stepLines s ++ r .0)
+    (sym (lines-more (s ++ more) 0 (omega arith)) ∙ r .1 ∙ ap (λ (ls : List Line). ls ++ r .0) (lines-more s 0 some)) in
+    (e .0, (r .0, e .1))
 
 -- ---- logs grow
 

@@ -51,9 +51,9 @@ steady s (suc n) at low = go (ltb at (length s)) refl (λ (h : at < length s). s
     go false e more = refl
 
 -- the line at a place, and the lines after it
-pub rest-more : (s : List ℕ) (at : ℕ) → at < length s
+pub lines-more : (s : List ℕ) (at : ℕ) → at < length s
     → linesFrom s at (length s) ≡ lineAt s at ∷ linesFrom s (nextOf s (lineAt s at)) (length s)
-rest-more s at h = go (length s) refl
+lines-more s at h = go (length s) refl
   where
     go : (n : ℕ) → length s ≡ n → linesFrom s at n ≡ lineAt s at ∷ linesFrom s (nextOf s (lineAt s at)) n
     go zero e = absurd (omega arith)

@@ -16,7 +16,7 @@ use Rattle.written.specs.Written.{lineText, Right}
 use Rattle.written.specs.WholeScripts.{textOf, followedAt, laid, RightSteps, WholeScripts}
 use Rattle.written.proofs.Here.{Here, here-split, part-here}
 use Rattle.written.proofs.Theorem.{line-reads, line-some, exact}
-use Rattle.written.proofs.LineLists.{lines-one, lines-none, rest-more}
+use Rattle.written.proofs.LineLists.{lines-one, lines-none, lines-more}
 
 -- ---- a script that is not refused
 
@@ -206,7 +206,7 @@ only-written s z =
     let p = judged-passed s z in
     let yard = lineAt s 0 in
     let steps = linesFrom s (nextOf s yard) (length s) in
-    let e : linesOf s ≡ yard ∷ steps = rest-more s 0 (p .1) in
+    let e : linesOf s ≡ yard ∷ steps = lines-more s 0 (p .1) in
     let r = rw e at (read-right s (length s) 0 0 (p .2)) in
     let some = line-some 0 yard (r .0 .0) in
     (yard, steps, r .0 .0, from-steps (after 0 yard) steps (omega arith) (r .0 .1), p .0, rw e at (script-is s z), e, r .1)

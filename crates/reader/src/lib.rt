@@ -10,10 +10,12 @@ ghost use mathlib.Core.Path.{_≡_};
 ghost use Prim.Native.Nat.{_≤_};
 ghost use lib.ListN.{length};
 ghost use Rattle.lines.specs.Lines.{lineAt, numberOf, nextOf, linesOf, judgedLines, judged};
+ghost use Rattle.lines.specs.Values.{valuesOf, valuesAt};
 
 // The line that begins at a place: the letter after its `(` says which form it can have.
 pub fn read_line(s: &[u8], at: usize) -> Line
     ensures { λ r. ⌜ r ≡ lineAt (now (s .entry)) at ⌝ }
+    ensures values { λ r. ⌜ valuesOf r ≡ valuesAt (now (s .entry)) at ⌝ }
 {
     let letter = scanning::byte_after(s, at);
     match letter {

@@ -4,7 +4,7 @@ use mathlib.Core.Bool.{cond, _&&_}
 use mathlib.Core.List.{List, [], _∷_}
 use lib.Dec.{ltb, eqb}
 use lib.ListN.{length}
-use Rattle.lines.specs.declared.Scan.{Scan}
+use Rattle.scan.specs.declared.Scan.{Scan}
 use Rattle.lines.specs.declared.YardScan.{YardScan}
 use Rattle.lines.specs.declared.Judged.{Judged}
 use Rattle.lines.specs.declared.Line.{Line}

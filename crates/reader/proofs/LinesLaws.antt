@@ -8,7 +8,8 @@ use native.Mathlib.Omega.{arith}
 use lib.ListN.{length}
 use lib.Dec.{ltb, eqb}
 use borrow.Author.Tests.{lt-ltb, le-ltb, eqb-true, eq-eqb, ne-eqb}
-use Rattle.lines.proofs.Laws.{never, step-right}
+use Rattle.scan.proofs.Laws.{never}
+use Rattle.lines.proofs.Laws.{step-right}
 use Rattle.lines.specs.Lines.{yardLine, stepLineRefusal, lineAt, numberOf, nextOf, linesFrom, linesOf, judgedLines}
 use Rattle.lines.specs.declared.YardScan.{YardScan}
 use Rattle.lines.specs.declared.Judged.{Judged}

@@ -1,8 +1,7 @@
 // Reads a script line by line, and judges it by refusals 1 to 5. The contracts cite the definitions of the crate `lines`:
-// Lines.antt, and for the private parts Scan.antt and Forms.antt besides.
+// Lines.antt and Values.antt, and for the private parts Forms.antt besides.
 mod forms;
 mod line_forms;
-mod scanning;
 
 use lines::Judged;
 use lines::Line;
@@ -17,7 +16,7 @@ pub fn read_line(s: &[u8], at: usize) -> Line
     ensures { λ r. ⌜ r ≡ lineAt (now (s .entry)) at ⌝ }
     ensures values { λ r. ⌜ valuesOf r ≡ valuesAt (now (s .entry)) at ⌝ }
 {
-    let letter = scanning::byte_after(s, at);
+    let letter = scan::byte_after(s, at);
     match letter {
         b'o' => line_forms::order_or_refused(s, at),
         b'h' => line_forms::hear_or_refused(s, at),

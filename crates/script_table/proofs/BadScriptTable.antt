@@ -7,7 +7,7 @@ use lib.ListN.{length}
 use borrow.Author.Tests.{lt-ltb}
 use Rattle.text.specs.Bytes.{bytes}
 use Rattle.text.specs.Decimal.{decimal}
-use Rattle.lines.specs.Scan.{allBelow, stands, digitAt, readText, firstDigit, nextDigit, readNumber}
+use Rattle.scan.specs.Scan.{allBelow, stands, digitAt, readText, firstDigit, nextDigit, readNumber}
 use Rattle.lines.specs.Forms.{orRole, readRole, readPost, postAdded, postsRead, readYard}
 use Rattle.lines.specs.Lines.{yardLine, stepLineRefusal, orderLine, hearLine, beaconLine, rollLine, yardOr, rollOr, beaconOr, hearOr, lineAt, linesFrom, judgedLines, judged}
 use Rattle.meaning.specs.Texts.{badText}

@@ -18,7 +18,7 @@ use Rattle.yard.specs.Worlds.{single, singles}
 use Rattle.roll.specs.RollCall.{laneHears, lanesHears, postsHear, beaconsSent, sourcesBelow, beaconsHeard, postsHearBeacons, rollSteps, rollRefusal, rollCall, rollCallAir}
 use Rattle.roll.specs.Runs.{answer, step, run}
 use Rattle.text.specs.Decimal.{decimal}
-use Rattle.lines.specs.Scan.{allBelow as allBytes, stands, digitAt, readText, firstDigit, nextDigit, readNumber}
+use Rattle.scan.specs.Scan.{allBelow as allBytes, stands, digitAt, readText, firstDigit, nextDigit, readNumber}
 use Rattle.lines.specs.Forms.{orRole, readRole, readPost, postAdded, postsRead, readYard}
 use Rattle.lines.specs.Lines.{yardLine, stepLineRefusal, orderLine, hearLine, beaconLine, rollLine, yardOr, rollOr, beaconOr, hearOr, lineAt, linesFrom, judgedLines, judged}
 use Rattle.meaning.specs.Texts.{refusedText, itemText, itemsText, postText, postsText}

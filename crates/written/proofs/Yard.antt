@@ -8,14 +8,14 @@ use lib.Dec.{ltb, eqb}
 use lib.ListN.{length, length-append}
 use borrow.Author.Tests.{eqb-true, ltb-true, lt-ltb, eq-eqb}
 use Rattle.text.specs.Bytes.{bytes}
-use Rattle.lines.specs.declared.Scan.{Scan}
+use Rattle.scan.specs.declared.Scan.{Scan}
 use Rattle.lines.specs.declared.YardScan.{YardScan}
 use Rattle.lines.specs.declared.Line.the-variants.{Yard, Refused}
-use Rattle.lines.specs.Scan.{stands, startAt, readText}
+use Rattle.scan.specs.Scan.{stands, startAt, readText}
 use Rattle.lines.specs.Forms.{readPost, postAdded, postsRead, noPosts, scanOf, yardPosts, readYard}
 use Rattle.lines.specs.Lines.{lineAt, yardOr, yardLine, numberOf}
 use Rattle.written.specs.Written.{postTexts, lineText, Right}
-use Rattle.lines.proofs.Laws.{both}
+use Rattle.scan.proofs.Laws.{both}
 use Rattle.written.proofs.Here.{Here, here-at, here-join, here-split}
 use Rattle.written.proofs.Number.{done}
 use Rattle.written.proofs.Forms.{text-sound, text-complete}

@@ -7,10 +7,10 @@ use native.Mathlib.Omega.{arith}
 use lib.ListN.{length, getD}
 use lib.Dec.{ltb, leb}
 use borrow.Author.Tests.{ltb-true, leb-true, lt-ltb}
-use Rattle.lines.specs.Scan.{digitAt, failed, firstDigit, nextDigit, readNumber}
-use Rattle.lines.specs.declared.Scan.{Scan}
-use Rattle.lines.proofs.Laws.{both, never, digit-in}
-use Rattle.reader.proofs.ScanningLaws.{ways, and-no, not-no}
+use Rattle.scan.specs.Scan.{digitAt, failed, firstDigit, nextDigit, readNumber}
+use Rattle.scan.specs.declared.Scan.{Scan}
+use Rattle.scan.proofs.Laws.{both, never, digit-in}
+use Rattle.scan.proofs.TextLaws.{ways, and-no, not-no}
 
 -- ---- one digit
 

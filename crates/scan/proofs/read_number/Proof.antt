@@ -1,6 +1,6 @@
-use Rattle.reader.proofs.NumberLaws.{first-small, number-more, number-short}
-use Rattle.reader.proofs.scanning.read_number.Statement.{statement}
-use Rattle.reader.proofs.scanning.read_number.Tie as tie
+use Rattle.scan.proofs.NumberLaws.{first-small, number-more, number-short}
+use Rattle.scan.proofs.read_number.Statement.{statement}
+use Rattle.scan.proofs.read_number.Tie as tie
 
 more-digits-requires : tie.Need-more-digits-requires
 more-digits-requires c κs = first-small _ _ _ (c .before .before .before .first-digit .ensures) (c .if1 .taken)

@@ -1,8 +1,8 @@
 use mathlib.Core.Path.{sym}
 use lib.ListN.{List·getD-eq-default}
 use borrow.Author.Needs.{needs}
-use Rattle.reader.proofs.scanning.byte_at.Statement.{statement}
-use Rattle.reader.proofs.scanning.byte_at.Tie as tie
+use Rattle.scan.proofs.byte_at.Statement.{statement}
+use Rattle.scan.proofs.byte_at.Tie as tie
 
 returns-2 : tie.Need-returns-2
 returns-2 c = sym (List·getD-eq-default (c .before .args .s .now) 0 (search needs))

@@ -1,21 +1,29 @@
-// What stands in a text at a place, and numerals: Scan.antt of the crate `lines`.
-use lines::Scan;
+// Reads a text from a place on: what stands there, and numerals. A scan that fails stays where it is, and a byte past the end
+// is 0, so nothing owes a bound. The contracts cite specs/Scan.antt.
 ghost use mathlib.Core.Path.{_≡_};
-ghost use mathlib.Core.Bool.{true, cond, _&&_};
+ghost use mathlib.Core.Bool.{true, _&&_};
 ghost use Prim.Native.Nat.{_+_, _≤_, _<_};
 ghost use lib.Dec.{leb};
 ghost use lib.ListN.{length, getD};
-ghost use Rattle.lines.specs.Scan.{sameBytes, stands, startAt, failed, readText, firstDigit, nextDigit, readNumber};
+ghost use Rattle.scan.specs.Scan.{sameBytes, stands, startAt, failed, readText, firstDigit, nextDigit, readNumber};
+
+// How far a text was read: whether all was of the form so far, the place reached, and the last two numbers read.
+pub struct Scan {
+    pub ok: bool,
+    pub at: usize,
+    pub earlier: u32,
+    pub latest: u32,
+}
 
 // What stands at a place, and 0 past the end.
-pub(crate) fn byte_at(s: &[u8], at: usize) -> u8
+pub fn byte_at(s: &[u8], at: usize) -> u8
     ensures { λ r. ⌜ r ≡ getD (now (s .entry)) at 0 ⌝ }
 {
     if at < s.len() { s[at] } else { 0 }
 }
 
 // What stands after a place, and 0 past the end.
-pub(crate) fn byte_after(s: &[u8], at: usize) -> u8
+pub fn byte_after(s: &[u8], at: usize) -> u8
     ensures { λ r. ⌜ r ≡ getD (now (s .entry)) (at + 1) 0 ⌝ }
 {
     if at < s.len() { byte_at(s, at + 1) } else { 0 }
@@ -36,7 +44,7 @@ fn same_bytes(s: &[u8], at: usize, t: &[u8]) -> bool
 }
 
 // Whether a text stands at a place.
-pub(crate) fn stands_at(s: &[u8], at: usize, t: &[u8]) -> bool
+pub fn stands_at(s: &[u8], at: usize, t: &[u8]) -> bool
     ensures { λ r. ⌜ r ≡ stands (now (s .entry)) at (now (t .entry)) ⌝ }
 {
     if at > s.len() {
@@ -49,7 +57,7 @@ pub(crate) fn stands_at(s: &[u8], at: usize, t: &[u8]) -> bool
 }
 
 // A line is read from a place on.
-pub(crate) fn start_at(at: usize) -> Scan
+pub fn start_at(at: usize) -> Scan
     ensures { λ r. ⌜ r ≡ startAt at ⌝ }
 {
     Scan {
@@ -60,7 +68,7 @@ pub(crate) fn start_at(at: usize) -> Scan
     }
 }
 
-pub(crate) fn fail(c: Scan) -> Scan
+pub fn fail(c: Scan) -> Scan
     ensures { λ r. ⌜ r ≡ failed c ⌝ }
 {
     Scan {
@@ -72,7 +80,7 @@ pub(crate) fn fail(c: Scan) -> Scan
 }
 
 // A text comes next.
-pub(crate) fn read_text(s: &[u8], t: &[u8], c: Scan) -> Scan
+pub fn read_text(s: &[u8], t: &[u8], c: Scan) -> Scan
     ensures { λ r. ⌜ r ≡ readText (now (s .entry)) (now (t .entry)) c ⌝ }
 {
     if !c.ok {
@@ -142,7 +150,7 @@ fn more_digits(s: &[u8], c: Scan) -> Scan
 }
 
 // A number of one to five digits; one that starts with 0 has no digit more.
-pub(crate) fn read_number(s: &[u8], c: Scan) -> Scan
+pub fn read_number(s: &[u8], c: Scan) -> Scan
     ensures { λ r. ⌜ r ≡ readNumber (now (s .entry)) c ⌝ }
 {
     let n = first_digit(s, c);
@@ -151,11 +159,4 @@ pub(crate) fn read_number(s: &[u8], c: Scan) -> Scan
     } else {
         n
     }
-}
-
-// One of two numbers, by a test.
-pub(crate) fn pick(test: bool, yes: u8, no: u8) -> u8
-    ensures { λ r. ⌜ r ≡ cond test «yes» «no» ⌝ }
-{
-    if test { yes } else { no }
 }

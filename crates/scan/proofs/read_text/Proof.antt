@@ -1,7 +1,7 @@
 use native.Mathlib.Omega.{arith}
-use Rattle.reader.proofs.ScanningLaws.{text-stop, text-yes, text-no, text-fits}
-use Rattle.reader.proofs.scanning.read_text.Statement.{statement}
-use Rattle.reader.proofs.scanning.read_text.Tie as tie
+use Rattle.scan.proofs.TextLaws.{text-stop, text-yes, text-no, text-fits}
+use Rattle.scan.proofs.read_text.Statement.{statement}
+use Rattle.scan.proofs.read_text.Tie as tie
 
 returns : tie.Need-returns
 returns c = text-stop _ _ _ (c .if1 .taken)

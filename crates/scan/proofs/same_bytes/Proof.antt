@@ -6,10 +6,10 @@ use Prim.Native.Nat.{_≤_, _-_, _+_, ℕ}
 use lib.ListN.{length, getD}
 use lib.Dec.{eqb}
 use borrow.Author.Tests.{eq-eqb, ne-eqb}
-use Rattle.lines.specs.Scan.{allBelow}
-use Rattle.reader.proofs.ScanningLaws.{all-more, all-broken}
-use Rattle.reader.proofs.scanning.same_bytes.Statement.{statement}
-use Rattle.reader.proofs.scanning.same_bytes.Tie as tie
+use Rattle.scan.specs.Scan.{allBelow}
+use Rattle.scan.proofs.TextLaws.{all-more, all-broken}
+use Rattle.scan.proofs.same_bytes.Statement.{statement}
+use Rattle.scan.proofs.same_bytes.Tie as tie
 
 abbrev Inv-loop : tie.InvT-loop
 Inv-loop s at t i₀ i = (i ≤ length t) × (true ≡ allBelow (λ (k : ℕ). eqb (getD s (at + k) 0) (getD t k 0)) i)

@@ -1,8 +1,8 @@
 use native.Mathlib.Omega.{arith}
 use borrow.Author.Needs.{needs}
-use Rattle.reader.proofs.NumberLaws.{first-stop, first-fits, first-yes, first-no}
-use Rattle.reader.proofs.scanning.first_digit.Statement.{statement}
-use Rattle.reader.proofs.scanning.first_digit.Tie as tie
+use Rattle.scan.proofs.NumberLaws.{first-stop, first-fits, first-yes, first-no}
+use Rattle.scan.proofs.first_digit.Statement.{statement}
+use Rattle.scan.proofs.first_digit.Tie as tie
 
 returns : tie.Need-returns
 returns c = first-stop _ _ (c .if1 .taken)

@@ -1,8 +1,8 @@
 use borrow.Author.Needs.{needs}
 use native.Mathlib.Omega.{arith}
-use Rattle.reader.proofs.ScanningLaws.{stands-past, stands-here}
-use Rattle.reader.proofs.scanning.stands_at.Statement.{statement}
-use Rattle.reader.proofs.scanning.stands_at.Tie as tie
+use Rattle.scan.proofs.TextLaws.{stands-past, stands-here}
+use Rattle.scan.proofs.stands_at.Statement.{statement}
+use Rattle.scan.proofs.stands_at.Tie as tie
 
 returns : tie.Need-returns
 returns c = stands-past _ _ _ (omega arith)

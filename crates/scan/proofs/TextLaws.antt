@@ -8,9 +8,9 @@ use native.Mathlib.Omega.{arith}
 use lib.ListN.{length, getD}
 use lib.Dec.{ltb, leb, eqb}
 use borrow.Author.Tests.{ltb-true, ltb-false, leb-true, le-leb, lt-leb, ne-eqb}
-use Rattle.lines.specs.Scan.{allBelow, sameBytes, stands, failed, readText}
-use Rattle.lines.specs.declared.Scan.{Scan}
-use Rattle.lines.proofs.Laws.{both, never}
+use Rattle.scan.specs.Scan.{allBelow, sameBytes, stands, failed, readText}
+use Rattle.scan.specs.declared.Scan.{Scan}
+use Rattle.scan.proofs.Laws.{both, never}
 
 -- ---- tests
 

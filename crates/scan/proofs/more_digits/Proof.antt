@@ -2,9 +2,9 @@ use native.Mathlib.Omega.{arith}
 use mathlib.Core.Path.{_≡_}
 use borrow.Author.Needs.{needs}
 use lib.ListN.{getD}
-use Rattle.reader.proofs.NumberLaws.{Reading, reading-start, reading-fits, reading-next, reading-end}
-use Rattle.reader.proofs.scanning.more_digits.Statement.{statement}
-use Rattle.reader.proofs.scanning.more_digits.Tie as tie
+use Rattle.scan.proofs.NumberLaws.{Reading, reading-start, reading-fits, reading-next, reading-end}
+use Rattle.scan.proofs.more_digits.Statement.{statement}
+use Rattle.scan.proofs.more_digits.Tie as tie
 
 abbrev Inv-loop : tie.InvT-loop
 Inv-loop s c at₀ value₀ left₀ x₀ at value left x = (x ≡ getD s at 0) × Reading s c left at value

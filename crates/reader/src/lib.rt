@@ -6,8 +6,8 @@ mod line_forms;
 use lines::Judged;
 use lines::Line;
 ghost use mathlib.Core.Path.{_≡_};
-ghost use Prim.Native.Nat.{_≤_};
-ghost use lib.ListN.{length};
+ghost use Prim.Native.Nat.{_+_, _≤_};
+ghost use lib.ListN.{length, getD};
 ghost use Rattle.lines.specs.Lines.{lineAt, numberOf, nextOf, linesOf, judgedLines, judged};
 ghost use Rattle.lines.specs.Values.{valuesOf, valuesAt};
 
@@ -16,7 +16,7 @@ pub fn read_line(s: &[u8], at: usize) -> Line
     ensures { λ r. ⌜ r ≡ lineAt (now (s .entry)) at ⌝ }
     ensures values { λ r. ⌜ valuesOf r ≡ valuesAt (now (s .entry)) at ⌝ }
 {
-    let letter = scan::byte_after(s, at);
+    let letter = byte_after(s, at);
     match letter {
         b'o' => line_forms::order_or_refused(s, at),
         b'h' => line_forms::hear_or_refused(s, at),
@@ -24,6 +24,17 @@ pub fn read_line(s: &[u8], at: usize) -> Line
         b'r' => line_forms::roll_or_refused(s, at),
         b'y' => line_forms::yard_or_refused(s, at),
         _ => Line::Refused(2),
+    }
+}
+
+// What stands after a place, and 0 past the end.
+fn byte_after(s: &[u8], at: usize) -> u8
+    ensures { λ r. ⌜ r ≡ getD (now (s .entry)) (at + 1) 0 ⌝ }
+{
+    if at < s.len() {
+        scan::byte_at(s, at + 1)
+    } else {
+        0
     }
 }
 

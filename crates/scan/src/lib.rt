@@ -5,7 +5,7 @@ ghost use mathlib.Core.Bool.{true, _&&_};
 ghost use Prim.Native.Nat.{_+_, _≤_, _<_};
 ghost use lib.Dec.{leb};
 ghost use lib.ListN.{length, getD};
-ghost use Rattle.scan.specs.Scan.{sameBytes, stands, startAt, failed, readText, firstDigit, nextDigit, readNumber};
+ghost use Rattle.scan.specs.Scan.{sameBytes, stands, failed, readText, firstDigit, nextDigit, readNumber};
 
 // How far a text was read: whether all was of the form so far, the place reached, and the last two numbers read.
 pub struct Scan {
@@ -20,13 +20,6 @@ pub fn byte_at(s: &[u8], at: usize) -> u8
     ensures { λ r. ⌜ r ≡ getD (now (s .entry)) at 0 ⌝ }
 {
     if at < s.len() { s[at] } else { 0 }
-}
-
-// What stands after a place, and 0 past the end.
-pub fn byte_after(s: &[u8], at: usize) -> u8
-    ensures { λ r. ⌜ r ≡ getD (now (s .entry)) (at + 1) 0 ⌝ }
-{
-    if at < s.len() { byte_at(s, at + 1) } else { 0 }
 }
 
 fn same_bytes(s: &[u8], at: usize, t: &[u8]) -> bool
@@ -56,18 +49,7 @@ pub fn stands_at(s: &[u8], at: usize, t: &[u8]) -> bool
     same_bytes(s, at, t)
 }
 
-// A line is read from a place on.
-pub fn start_at(at: usize) -> Scan
-    ensures { λ r. ⌜ r ≡ startAt at ⌝ }
-{
-    Scan {
-        ok: true,
-        at: at,
-        earlier: 0,
-        latest: 0,
-    }
-}
-
+// The scan that fails stays where it is.
 pub fn fail(c: Scan) -> Scan
     ensures { λ r. ⌜ r ≡ failed c ⌝ }
 {

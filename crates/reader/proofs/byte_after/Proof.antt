@@ -2,8 +2,8 @@ use native.Mathlib.Omega.{arith}
 use mathlib.Core.Path.{sym}
 use lib.ListN.{List·getD-eq-default}
 use borrow.Author.Needs.{needs}
-use Rattle.scan.proofs.byte_after.Statement.{statement}
-use Rattle.scan.proofs.byte_after.Tie as tie
+use Rattle.reader.proofs.byte_after.Statement.{statement}
+use Rattle.reader.proofs.byte_after.Tie as tie
 
 returns-2 : tie.Need-returns-2
 returns-2 c = sym (List·getD-eq-default (c .before .before .args .s .now) 0 (omega arith))

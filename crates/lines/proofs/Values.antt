@@ -1,16 +1,14 @@
 -- The line that is read at a place has the number, form and values that stand there. Assumes nothing.
 use mathlib.Core.Path.{_≡_, refl, ap, _∙_}
-use mathlib.Core.Bool.{Bool, true, false, cond, _&&_}
-use mathlib.Core.List.{List, [], _∷_}
+use mathlib.Core.Bool.{Bool, true, false, cond}
+use mathlib.Core.List.{List}
 use Prim.Native.Nat.{ℕ}
-use lib.Dec.{ltb, eqb}
-use Rattle.text.specs.Bytes.{bytes}
-use Rattle.lines.specs.declared.YardScan.{YardScan}
+use lib.Dec.{eqb}
 use Rattle.lines.specs.declared.Line.{Line}
-use Rattle.lines.specs.declared.Line.the-variants.{Yard, Refused}
+use Rattle.lines.specs.declared.Line.the-variants.{Refused}
 use Rattle.lines.specs.Forms.{orderForm, hearForm, beaconForm, rollForm, readForm, readYard}
 use Rattle.lines.specs.Lines.{yardLine, orderLine, hearLine, beaconLine, rollLine, yardOr, rollOr, beaconOr, hearOr, lineAt}
-use Rattle.lines.specs.Values.{LineValues, ofForm, onlyNumber, valuesOf, ofFormUnless, yardLineRefusal, valuesAt}
+use Rattle.lines.specs.Values.{LineValues, ofForm, onlyNumber, valuesOf, ofFormUnless, valuesAt}
 
 -- a line of a form, or its refusal
 unless : (k : ℕ) (l : Line) (form values : List ℕ) → valuesOf l ≡ ofForm form values
@@ -27,23 +25,14 @@ other-form : (t : Bool) (l m : Line) (v u : LineValues) → valuesOf l ≡ v →
 other-form true l m v u e f = e
 other-form false l m v u e f = f
 
-yard-values : (at : ℕ) (y : YardScan) → valuesOf (yardLine at y) ≡ ofFormUnless (yardLineRefusal at y) (bytes "yard") (y .posts ∷ y .sources ∷ y .dests ∷ [])
-unfolding yardLine ofFormUnless
-yard-values at y = go (eqb at 0 && y .rising && ltb 0 (y .posts))
-  where
-    go : (t : Bool) → valuesOf (cond t (Yard (y .posts) (y .sources) (y .dests) (y .at)) (Refused 3))
-        ≡ cond (eqb (cond t 0 3) 0) (ofForm (bytes "yard") (y .posts ∷ y .sources ∷ y .dests ∷ [])) (onlyNumber (cond t 0 3))
-    go true = refl
-    go false = refl
-
 pub values-at : (s : List ℕ) (at : ℕ) → valuesOf (lineAt s at) ≡ valuesAt s at
-unfolding lineAt hearOr beaconOr rollOr yardOr orderLine hearLine beaconLine rollLine valuesAt
+unfolding lineAt hearOr beaconOr rollOr yardOr yardLine orderLine hearLine beaconLine rollLine valuesAt
 values-at s at =
     other-form (readForm s orderForm at .ok) _ _ _ _ (unless _ _ _ _ refl)
     (other-form (readForm s hearForm at .ok) _ _ _ _ (unless _ _ _ _ refl)
     (other-form (readForm s beaconForm at .ok) _ _ _ _ (unless _ _ _ _ refl)
     (other-form (readForm s rollForm at .ok) _ _ _ _ (unless _ _ _ _ refl)
-    (other-form (readYard s at .ok) _ _ _ _ (yard-values at (readYard s at)) refl))))
+    (other-form (readYard s at .ok) _ _ _ _ (unless _ _ _ _ refl) refl))))
 
 -- the same of what was read
 pub with-values : (s : List ℕ) (at : ℕ) (l : Line) → l ≡ lineAt s at → (l ≡ lineAt s at) × (valuesOf l ≡ valuesAt s at)

@@ -14,10 +14,13 @@ use Rattle.lines.specs.Forms.{orderForm, hearForm, beaconForm, rollForm,
 -- ---- one line; line 1 is the one at place 0
 
 -- 3: "Line 1 not the yard form, a yard form on a later line, no posts, a lane over 7 in it, or its lanes not rising."
+unfoldable pub yardLineRefusal : ℕ → YardScan → ℕ
+yardLineRefusal at y = cond (eqb at 0 && y .rising && ltb 0 (y .posts)) 0 3
+
 unfoldable pub yardLine : ℕ → YardScan → Line
 yardLine at y =
-    cond (eqb at 0 && y .rising && ltb 0 (y .posts)) (Yard (y .posts) (y .sources) (y .dests) (y .at))
-    (Refused 3)
+    cond (eqb (yardLineRefusal at y) 0) (Yard (y .posts) (y .sources) (y .dests) (y .at))
+    (Refused (yardLineRefusal at y))
 
 -- 3, 4: "A step's lane over 7.", 5: "A word over 65,535."
 unfoldable pub stepLineRefusal : ℕ → ℕ → ℕ → ℕ

@@ -1,14 +1,13 @@
 -- Document 01's number, form and values for each case of a line, and those of the line that begins at a place. Assumes nothing.
 use Prim.Native.Nat.{ℕ}
-use mathlib.Core.Bool.{cond, _&&_}
+use mathlib.Core.Bool.{cond}
 use mathlib.Core.List.{List, [], _∷_}
-use lib.Dec.{ltb, eqb}
+use lib.Dec.{eqb}
 use Rattle.text.specs.Bytes.{bytes}
-use Rattle.lines.specs.declared.YardScan.{YardScan}
 use Rattle.lines.specs.declared.Line.{Line}
 use Rattle.lines.specs.declared.Line.the-variants.{Yard, Order, Hear, Beacon, Roll, Refused}
 use Rattle.lines.specs.Forms.{orderForm, hearForm, beaconForm, rollForm, readForm, readYard}
-use Rattle.lines.specs.Lines.{stepLineRefusal}
+use Rattle.lines.specs.Lines.{yardLineRefusal, stepLineRefusal}
 
 -- the number that refuses a line, or 0; the word that its form begins with; the numbers that follow in turn, of a yard its posts,
 -- sources and destinations as sets
@@ -36,10 +35,6 @@ valuesOf (Refused number) = onlyNumber number
 -- a line of a form, unless a number refuses it
 unfoldable pub ofFormUnless : ℕ → List ℕ → List ℕ → LineValues
 ofFormUnless number form values = cond (eqb number 0) (ofForm form values) (onlyNumber number)
-
--- 3 of a yard line, or 0
-abbrev pub yardLineRefusal : ℕ → YardScan → ℕ
-yardLineRefusal at y = cond (eqb at 0 && y .rising && ltb 0 (y .posts)) 0 3
 
 -- the line that begins at a place, by the form that it has; 2 where it has none
 unfoldable pub valuesAt : List ℕ → ℕ → LineValues

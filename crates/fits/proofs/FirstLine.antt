@@ -6,13 +6,15 @@ use mathlib.Core.List.{List}
 use mathlib.Core.Logic.{_⊎_, inl, inr, _≢_}
 use native.Mathlib.Omega.{arith}
 use lib.Count.{ones, ones-step}
-use lib.ListN.{length}
-use borrow.Author.Tests.{lt-ltb, le-ltb, eq-eqb, ne-eqb}
+use borrow.Author.Tests.{eq-eqb, ne-eqb}
 use Rattle.cells.specs.Sets.{hasLane, roleAstray}
-use Rattle.lines.specs.Lines.{lineAt, numberOf, linesFrom, judgedLines, judged}
+use Rattle.lines.specs.Lines.{lineAt, numberOf, judged}
 use Rattle.yard.specs.Yards.{freshYard, yardRefusal, yardMade}
-use Rattle.laws.proofs.TestLaws.{same-or-not, below-or-not, true-or-false, not-both, each-none}
+use Rattle.laws.proofs.TestLaws.{true-or-false, not-both, each-none}
 use Rattle.written.specs.Written.{Roles}
+use Rattle.written.proofs.LineLists.{lines-more}
+use Rattle.written.proofs.WholeScripts.{first-passed, judged-passed}
+use Rattle.meaning.specs.Script.{stepLines}
 
 -- ---- the yard
 
@@ -54,40 +56,8 @@ module _ (posts sources dests : ℕ) (some : 0 < posts) (rs : Roles posts source
 
 -- ---- the script
 
-module _ (s : List ℕ) (z : judged s .number ≡ 0) where
-  -- 1 does not arise
-  pub accepted-short : length s ≤ 48000
-  unfolding judged
-  accepted-short = go (below-or-not 48000 (length s))
-    where
-      go : (48000 < length s) ⊎ (length s ≤ 48000) → length s ≤ 48000
-      go (inl l) = absurd (let e : _≡_ {A = ℕ} 1 0 = rw (lt-ltb 48000 (length s) l) at z in omega arith)
-      go (inr l) = l
-
-  -- the text is not empty
-  pub accepted-some : 0 < length s
-  unfolding judged
-  accepted-some = go (same-or-not (length s) 0)
-    where
-      go : (length s ≡ 0) ⊎ (length s ≢ 0) → 0 < length s
-      go (inl e) = absurd (let q : _≡_ {A = ℕ} 3 0 = rw (le-ltb 48000 (length s) (omega arith), eq-eqb (length s) 0 e) at z in omega arith)
-      go (inr n) = omega arith
-
-  -- none of its lines is refused
-  accepted-lines : judgedLines 0 (linesFrom s 0 (length s)) .number ≡ 0
-  unfolding judged
-  accepted-lines = rw (le-ltb 48000 (length s) accepted-short, ne-eqb (length s) 0 (omega (arith, accepted-some))) at z
-
-  -- not the first
-  first-of : (k : ℕ) → length s ≡ k → judgedLines 0 (linesFrom s 0 k) .number ≡ 0 → numberOf (lineAt s 0) ≡ 0
-  unfolding judgedLines linesFrom
-  first-of zero e q = absurd (omega (arith, accepted-some))
-  first-of (suc k) e q = go (same-or-not (numberOf (lineAt s 0)) 0)
-    where
-      go : (numberOf (lineAt s 0) ≡ 0) ⊎ (numberOf (lineAt s 0) ≢ 0) → numberOf (lineAt s 0) ≡ 0
-      go (inl y) = y
-      go (inr n) = rw (lt-ltb 0 (length s) accepted-some, ne-eqb (numberOf (lineAt s 0)) 0 n) at q
-
-  -- so line 1 is accepted
-  pub accepted-first : numberOf (lineAt s 0) ≡ 0
-  accepted-first = first-of (length s) refl accepted-lines
+-- line 1 is accepted
+pub accepted-first : (s : List ℕ) → judged s .number ≡ 0 → numberOf (lineAt s 0) ≡ 0
+accepted-first s z =
+    let p = judged-passed s z in
+    first-passed 0 (lineAt s 0) (stepLines s) (rw (lines-more s 0 (p .1)) at (p .2)) .0

@@ -10,3 +10,6 @@ pub mod FirstLine
 pub mod Ends
 pub mod Theorem
 pub mod Printed
+pub mod AirsAlike
+pub mod AirBefore
+pub mod Longer

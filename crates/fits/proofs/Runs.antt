@@ -1,5 +1,5 @@
 -- A script's lines as a list of steps, and what demand 3 says of it. Assumes nothing.
-use Prim.Native.Nat.{ℕ, _+_, _-_, _<_, _≤_}
+use Prim.Native.Nat.{ℕ, _-_, _<_, _≤_}
 use mathlib.Core.Path.{_≡_, refl, sym, ap, _∙_}
 use mathlib.Core.Bool.{Bool, true, false, cond, not}
 use mathlib.Core.List.{List, [], _∷_, _++_, append-assoc}
@@ -39,7 +39,7 @@ use Rattle.fits.proofs.ScriptCounts.{ordersOf}
 -- ---- the lines as a list of steps
 
 -- a list of steps and then another
-run-append : (w : World) (l m : List Step) → run w (l ++ m) ≡ run (run w l) m
+pub run-append : (w : World) (l m : List Step) → run w (l ++ m) ≡ run (run w l) m
 unfolding run
 run-append w [] m = refl
 run-append w (x ∷ l) m = run-append (step w x) l m

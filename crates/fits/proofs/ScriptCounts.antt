@@ -5,7 +5,6 @@ use mathlib.Core.List.{List, [], _∷_, _++_}
 use mathlib.Core.Logic.{_⊎_, inl, inr, _≢_}
 use native.Mathlib.Omega.{arith}
 use lib.ListN.{length, length-append}
-use borrow.Author.Tests.{lt-ltb, le-ltb}
 use Rattle.lines.specs.declared.Line.{Line}
 use Rattle.lines.specs.declared.Line.the-variants.{Yard, Order, Hear, Beacon, Roll, Refused}
 use Rattle.lines.specs.Lines.{lineAt, nextOf, linesFrom}
@@ -16,6 +15,7 @@ use Rattle.roll.specs.Runs as runs
 use Rattle.roll.specs.Answers.{answerNumber}
 use Rattle.meaning.specs.Script.{stepOf, refusalOf, worldAfter, refusedLines}
 use Rattle.laws.proofs.TestLaws.{below-or-not}
+use Rattle.written.proofs.LineLists.{lines-one, lines-none}
 use Rattle.fits.proofs.TextLengths.{printed}
 use Rattle.fits.proofs.ItemLengths.{itemsMost, most-append}
 use Rattle.fits.proofs.LineLengths.{least, reaches}
@@ -127,15 +127,6 @@ module _ (s : List ℕ) (short : length s ≤ 48000)
   abbrev then : World → ℕ → World
   then w at = run w (stepOf (lineAt s at))
 
-  -- where a line begins, and where none does
-  begun : (at k : ℕ) → at < length s → linesFrom s at (suc k) ≡ lineAt s at ∷ rest at k
-  unfolding linesFrom
-  begun at k l = rw (lt-ltb at (length s) l)
-
-  over : (at k : ℕ) → length s ≤ at → linesFrom s at (suc k) ≡ []
-  unfolding linesFrom
-  over at k l = rw (le-ltb at (length s) l)
-
   -- the line at a place, with what holds of those after it
   step-counted : (w : World) (n at k : ℕ) → Keep w → at ≤ length s → Low n at
       → (at < length s → AllCounted (then w at) (n + 1) (nextOf s (lineAt s at)) (length s) (rest at k))
@@ -143,10 +134,10 @@ module _ (s : List ℕ) (short : length s ≤ 48000)
   step-counted w n at k g h low ih = go (below-or-not at (length s))
     where
       go : (at < length s) ⊎ (length s ≤ at) → AllCounted w n at (length s) (linesFrom s at (suc k))
-      go (inl l) = rw (begun at k l)
+      go (inl l) = rw (lines-one s at k l)
           (more-counted w n at (nextOf s (lineAt s at)) (length s) (lineAt s at) (rest at k) (reaches s at l .far)
           (line-counted w n (omega (arith, low l)) (small w g) (lineAt s at)) (ih l))
-      go (inr l) = rw (over at k l) (none-counted w n at (length s) h)
+      go (inr l) = rw (lines-none s at (suc k) l) (none-counted w n at (length s) h)
 
   -- all lines from a place on
   pub lines-counted : (k : ℕ) (w : World) (n at : ℕ) → Keep w → at ≤ length s → Low n at → AllCounted w n at (length s) (linesFrom s at k)
@@ -165,12 +156,12 @@ module _ (s : List ℕ) (short : length s ≤ 48000)
     step-unless-spent w n at k g h low ih = go (below-or-not at (length s))
       where
         go : (at < length s) ⊎ (length s ≤ at) → AllUnlessSpent w n at (length s) (linesFrom s at (suc k))
-        go (inl l) = rw (begun at k l)
+        go (inl l) = rw (lines-one s at k l)
             (more-unless-spent w n at (nextOf s (lineAt s at)) (length s) (lineAt s at) (rest at k) (reaches s at l .far)
             (line-unless-spent w n (omega (arith, low l)) (small w g) (spent w g) (lineAt s at))
             (lines-counted k (then w at) (n + 1) (nextOf s (lineAt s at)) (keep-line w g (lineAt s at)) (reaches s at l .inside) (low-next n at l low))
             (ih l))
-        go (inr l) = rw (over at k l) (none-unless-spent w n at (length s) h)
+        go (inr l) = rw (lines-none s at (suc k) l) (none-unless-spent w n at (length s) h)
 
     -- all lines from a place on
     pub lines-unless-spent : (k : ℕ) (w : World) (n at : ℕ) → Keep w → at ≤ length s → Low n at → AllUnlessSpent w n at (length s) (linesFrom s at k)

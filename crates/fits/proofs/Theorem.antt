@@ -14,10 +14,11 @@ use Rattle.meaning.specs.Script.{worldAfter, refusedLines, scriptStart, stepLin
 use Rattle.meaning.specs.Texts.{postsText}
 use Rattle.laws.proofs.TestLaws.{same-or-not}
 use Rattle.agreement.specs.Demand3 as demand
+use Rattle.written.proofs.WholeScripts.{judged-passed}
 use Rattle.fits.specs.Fits.{outputBytes, Fits}
 use Rattle.fits.proofs.TextLengths.{bad-length}
 use Rattle.fits.proofs.LineLengths.{accepted, reaches}
-use Rattle.fits.proofs.FirstLine.{yard-accepted, yard-made, accepted-short, accepted-first, accepted-some}
+use Rattle.fits.proofs.FirstLine.{yard-accepted, yard-made, accepted-first}
 use Rattle.fits.proofs.Ends.{all-fits}
 
 module _ (s air : List ℕ) where
@@ -41,7 +42,7 @@ module _ (s air : List ℕ) where
         let made : scriptStart s air ≡ demand.freshWorld posts sources dests air =
         rw (e, yard-made posts sources dests (r .1) (r .5) (r .6)) refl in
         rw made
-        (all-fits s (accepted-short s z) (nextOf s (lineAt s 0)) (reaches s 0 (accepted-some s z) .inside)
+        (all-fits s (judged-passed s z .0) (nextOf s (lineAt s 0)) (reaches s 0 (judged-passed s z .1) .inside)
         posts sources dests air (r .2) (r .3) (r .4) (yard-accepted posts sources dests (r .1) (r .5) (r .6)))
 
     -- no other line can be the first

@@ -1,2 +1,4 @@
 pub mod Fits
 pub mod Printed
+pub mod AirBefore
+pub mod Longer

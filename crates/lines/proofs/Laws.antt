@@ -1,44 +1,12 @@
--- Laws of the definitions in specs/: tests, digits, the refusals of a step. Assumes nothing.
+-- Laws of the refusals of a step's line. Assumes nothing.
 use mathlib.Core.Path.{_≡_, refl, sym}
-use mathlib.Core.Bool.{Bool, true, false, cond, _&&_}
-use mathlib.Core.List.{List}
-use Prim.Native.Nat.{ℕ, zero, suc, _-_, _<_, _≤_}
+use mathlib.Core.Bool.{Bool, true, false, cond}
+use Prim.Native.Nat.{ℕ, zero, suc, _<_}
 use native.Mathlib.Omega.{arith}
-use lib.ListN.{length, getD, List·getD-eq-default}
 use lib.Dec.{ltb, eqb, lit<}
-use borrow.Author.Tests.{ltb-true, ltb-false, le-leb, lt-leb}
-use Rattle.lines.specs.Scan.{digitAt}
+use borrow.Author.Tests.{ltb-false}
+use Rattle.scan.proofs.Laws.{never}
 use Rattle.lines.specs.Lines.{stepLineRefusal}
-
--- a test does not both fail and hold
-pub never : {X : Type 0} → false ≡ true → X
-never e = absurd (let z : _≡_ {A = ℕ} 0 1 = cc in omega arith)
-
--- both parts of a test that holds
-pub both : (a b : Bool) → (a && b) ≡ true → (a ≡ true) × (b ≡ true)
-both true b e = (refl, e)
-both false b e = never e
-
--- a byte below 48 is no digit; those from 48 to 57 are
-pub digit-low : (s : List ℕ) (at x : ℕ) → x ≡ getD s at 0 → x < 48 → 10 ≡ digitAt s at
-unfolding digitAt
-digit-low s at x e h = rw (← e, lt-leb _ _ h)
-
-pub digit-mid : (s : List ℕ) (at x : ℕ) → x ≡ getD s at 0 → 48 ≤ x → x ≤ 57 → x - 48 ≡ digitAt s at
-unfolding digitAt
-digit-mid s at x e l h = rw (← e, le-leb _ _ l, le-leb _ _ h)
-
--- a digit does not stand past the end
-pub digit-in : (s : List ℕ) (at : ℕ) → digitAt s at < 10 → at < length s
-unfolding digitAt
-digit-in s at h = go (ltb at (length s)) refl
-  where
-    go : (b : Bool) → ltb at (length s) ≡ b → at < length s
-    go true e = ltb-true _ _ e
-    go false e =
-        let z : getD s at 0 ≡ 0 = List·getD-eq-default s 0 (ltb-false _ _ e) in
-        let d : 10 ≡ digitAt s at = digit-low s at 0 (sym z) (omega arith) in
-        absurd (omega arith)
 
 -- a chain of refusals that comes to 0 has passed its first test
 pub chain : (t : Bool) (k r : ℕ) → 0 < k → cond t k r ≡ 0 → (t ≡ false) × (r ≡ 0)

@@ -6,9 +6,9 @@ use lib.Bits.{bitOr}
 use lib.Dec.{ltb, eqb}
 use lib.ListN.{length}
 use Rattle.text.specs.Bytes.{bytes}
-use Rattle.lines.specs.declared.Scan.{Scan}
+use Rattle.scan.specs.declared.Scan.{Scan}
 use Rattle.lines.specs.declared.YardScan.{YardScan}
-use Rattle.lines.specs.Scan.{stands, startAt, failed, readText, readNumber}
+use Rattle.scan.specs.Scan.{stands, startAt, failed, readText, readNumber}
 
 -- ---- the steps
 

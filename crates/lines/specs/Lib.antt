@@ -1,3 +1,3 @@
-pub mod Scan
 pub mod Forms
 pub mod Lines
+pub mod Values

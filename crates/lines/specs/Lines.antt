@@ -4,7 +4,7 @@ use mathlib.Core.Bool.{cond, _&&_}
 use mathlib.Core.List.{List, [], _∷_}
 use lib.Dec.{ltb, eqb}
 use lib.ListN.{length}
-use Rattle.lines.specs.declared.Scan.{Scan}
+use Rattle.scan.specs.declared.Scan.{Scan}
 use Rattle.lines.specs.declared.YardScan.{YardScan}
 use Rattle.lines.specs.declared.Judged.{Judged}
 use Rattle.lines.specs.declared.Line.{Line}
@@ -14,10 +14,13 @@ use Rattle.lines.specs.Forms.{orderForm, hearForm, beaconForm, rollForm,
 -- ---- one line; line 1 is the one at place 0
 
 -- 3: "Line 1 not the yard form, a yard form on a later line, no posts, a lane over 7 in it, or its lanes not rising."
+unfoldable pub yardLineRefusal : ℕ → YardScan → ℕ
+yardLineRefusal at y = cond (eqb at 0 && y .rising && ltb 0 (y .posts)) 0 3
+
 unfoldable pub yardLine : ℕ → YardScan → Line
 yardLine at y =
-    cond (eqb at 0 && y .rising && ltb 0 (y .posts)) (Yard (y .posts) (y .sources) (y .dests) (y .at))
-    (Refused 3)
+    cond (eqb (yardLineRefusal at y) 0) (Yard (y .posts) (y .sources) (y .dests) (y .at))
+    (Refused (yardLineRefusal at y))
 
 -- 3, 4: "A step's lane over 7.", 5: "A word over 65,535."
 unfoldable pub stepLineRefusal : ℕ → ℕ → ℕ → ℕ

@@ -1,13 +1,5 @@
 // A script's lines as they are read. specs/ defines the forms, how they are read, and refusals 1 to 5; the crate `reader` reads.
 
-// How far a line was read: whether all was of the form so far, the place reached, and the last two numbers read.
-pub struct Scan {
-    pub ok: bool,
-    pub at: usize,
-    pub earlier: u32,
-    pub latest: u32,
-}
-
 // How far a yard line was read: its posts, sources and destinations so far as sets of eight bits, and whether its lanes
 // rise and are at most 7.
 pub struct YardScan {

@@ -6,12 +6,12 @@ use Prim.Native.Nat.{ℕ, zero, suc, _+_, _*_, _%_, _^_, _<_, _≤_}
 use native.Mathlib.Omega.{arith}
 use lib.ListN.{length}
 use Rattle.text.specs.Bytes.{bytes}
-use Rattle.lines.specs.Scan.{stands, failed, readText}
+use Rattle.scan.specs.Scan.{stands, failed, readText}
 use Rattle.lines.specs.Forms.{asRole, orRole, bitOf, readPost, postAdded, postsRead}
-use Rattle.lines.specs.declared.Scan.{Scan}
+use Rattle.scan.specs.declared.Scan.{Scan}
 use Rattle.lines.specs.declared.YardScan.{YardScan}
-use Rattle.lines.proofs.Laws.{both}
-use Rattle.reader.proofs.ScanningLaws.{stands-in}
+use Rattle.scan.proofs.Laws.{both}
+use Rattle.scan.proofs.TextLaws.{stands-in}
 use Rattle.reader.proofs.Progress.{post-above}
 
 pub bit-law : (lane : ℕ) → lane < 8 → 1 * 2 ^ lane % 256 ≡ bitOf lane

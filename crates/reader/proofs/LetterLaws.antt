@@ -6,15 +6,15 @@ use Prim.Native.Nat.{ℕ, zero, suc, _+_, _<_}
 use native.Mathlib.Omega.{arith}
 use lib.ListN.{length, getD}
 use Rattle.text.specs.Bytes.{bytes}
-use Rattle.lines.specs.Scan.{stands, startAt, failed, readText, firstDigit, nextDigit, readNumber}
+use Rattle.scan.specs.Scan.{stands, startAt, failed, readText, firstDigit, nextDigit, readNumber}
 use Rattle.lines.specs.Forms.{Item, text, number, orderForm, hearForm, beaconForm, rollForm, readItems, readForm, orRole, readRole, postsRead, noPosts, readYard}
 use Rattle.lines.specs.Lines.{orderLine, hearLine, beaconLine, rollLine, yardOr, rollOr, beaconOr, hearOr, lineAt}
-use Rattle.lines.specs.declared.Scan.{Scan}
+use Rattle.scan.specs.declared.Scan.{Scan}
 use Rattle.lines.specs.declared.YardScan.{YardScan}
 use Rattle.lines.specs.declared.Line.{Line}
 use Rattle.lines.specs.declared.Line.the-variants.{Refused}
-use Rattle.lines.proofs.Laws.{never}
-use Rattle.reader.proofs.ScanningLaws.{and-no, stands-not, text-off}
+use Rattle.scan.proofs.Laws.{never}
+use Rattle.scan.proofs.TextLaws.{and-no, stands-not, text-off}
 
 -- ---- a form whose first text does not stand is not read
 

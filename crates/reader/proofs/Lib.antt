@@ -1,5 +1,3 @@
-pub mod ScanningLaws
-pub mod NumberLaws
 pub mod LetterLaws
 pub mod Progress
 pub mod FormsLaws

@@ -8,8 +8,9 @@ use native.Mathlib.Omega.{arith}
 use lib.ListN.{length}
 use lib.Dec.{ltb, eqb}
 use borrow.Author.Tests.{lt-ltb, le-ltb, eqb-true, eq-eqb, ne-eqb}
-use Rattle.lines.proofs.Laws.{never, step-right}
-use Rattle.lines.specs.Lines.{yardLine, stepLineRefusal, lineAt, numberOf, nextOf, linesFrom, linesOf, judgedLines}
+use Rattle.scan.proofs.Laws.{never}
+use Rattle.lines.proofs.Laws.{step-right}
+use Rattle.lines.specs.Lines.{yardLineRefusal, yardLine, stepLineRefusal, lineAt, numberOf, nextOf, linesFrom, linesOf, judgedLines}
 use Rattle.lines.specs.declared.YardScan.{YardScan}
 use Rattle.lines.specs.declared.Judged.{Judged}
 use Rattle.lines.specs.declared.Line.{Line}
@@ -43,15 +44,15 @@ or-no ok a r other c d e h q = q ∙ cond-no (ok d) a other (ap ok (sym e) ∙ h
 
 -- a yard form on line 1, and on a later line
 pub yard-yes : (y : YardScan) → (y .rising && ltb 0 (y .posts)) ≡ true → Yard (y .posts) (y .sources) (y .dests) (y .at) ≡ yardLine 0 y
-unfolding yardLine
+unfolding yardLineRefusal yardLine
 yard-yes y h = rw h
 
 pub yard-no : (y : YardScan) → (y .rising && ltb 0 (y .posts)) ≡ false → Refused 3 ≡ yardLine 0 y
-unfolding yardLine
+unfolding yardLineRefusal yardLine
 yard-no y h = rw h
 
 pub yard-late : (at : ℕ) (y : YardScan) → 0 < at → Refused 3 ≡ yardLine at y
-unfolding yardLine
+unfolding yardLineRefusal yardLine
 yard-late at y h = rw (ne-eqb at 0 (λ e. omega arith))
 
 -- a refused line is the last that is read

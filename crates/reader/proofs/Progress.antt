@@ -7,14 +7,14 @@ use native.Mathlib.Omega.{arith}
 use lib.ListN.{length}
 use lib.Dec.{ltb, eqb}
 use Rattle.text.specs.Bytes.{bytes}
-use Rattle.lines.specs.Scan.{stands, digitAt, startAt, readText, firstDigit, nextDigit, readNumber}
+use Rattle.scan.specs.Scan.{stands, digitAt, startAt, readText, firstDigit, nextDigit, readNumber}
 use Rattle.lines.specs.Forms.{orderForm, hearForm, beaconForm, rollForm, readForm, asRole, orRole, readRole, readPost, postAdded, postsRead, readYard}
-use Rattle.lines.specs.Lines.{yardLine, stepLineRefusal, orderLine, hearLine, beaconLine, rollLine, yardOr, rollOr, beaconOr, hearOr, lineAt, nextOf}
-use Rattle.lines.specs.declared.Scan.{Scan}
+use Rattle.lines.specs.Lines.{yardLineRefusal, yardLine, stepLineRefusal, orderLine, hearLine, beaconLine, rollLine, yardOr, rollOr, beaconOr, hearOr, lineAt, nextOf}
+use Rattle.scan.specs.declared.Scan.{Scan}
 use Rattle.lines.specs.declared.YardScan.{YardScan}
 use Rattle.lines.specs.declared.Line.{Line}
-use Rattle.lines.proofs.Laws.{both, never}
-use Rattle.reader.proofs.ScanningLaws.{ways, stands-in}
+use Rattle.scan.proofs.Laws.{both, never}
+use Rattle.scan.proofs.TextLaws.{ways, stands-in}
 
 -- ---- nothing read moves back
 
@@ -97,7 +97,7 @@ After s at l = Above s at (nextOf s l)
 
 yard-after : (s : List ℕ) (at : ℕ) (y : YardScan) → at < length s → Above s at (y .at) → After s at (yardLine at y)
 unfolding yardLine
-yard-after s at y h k = ways (After s at) (eqb at 0 && y .rising && ltb 0 (y .posts)) _ _ (λ e. k) (h, omega arith)
+yard-after s at y h k = ways (After s at) (eqb (yardLineRefusal at y) 0) _ _ (λ e. k) (h, omega arith)
 
 order-after : (s : List ℕ) (at : ℕ) (c : Scan) → at < length s → Above s at (c .at) → After s at (orderLine at c)
 unfolding orderLine

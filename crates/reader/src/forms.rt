@@ -1,19 +1,29 @@
 // The forms of a script's lines: Forms.antt of the crate `lines`.
-use crate::scanning::byte_at;
-use crate::scanning::fail;
-use crate::scanning::pick;
-use crate::scanning::read_number;
-use crate::scanning::read_text;
-use crate::scanning::stands_at;
-use crate::scanning::start_at;
-use lines::Scan;
 use lines::YardScan;
+use scan::Scan;
+use scan::byte_at;
+use scan::fail;
+use scan::read_number;
+use scan::read_text;
+use scan::stands_at;
 ghost use mathlib.Core.Path.{_≡_};
-ghost use mathlib.Core.Bool.{_&&_};
+ghost use mathlib.Core.Bool.{cond, _&&_};
 ghost use lib.ListN.{length};
 ghost use Rattle.text.specs.Bytes.{bytes};
-ghost use Rattle.lines.specs.Scan.{stands, failed};
+ghost use Rattle.scan.specs.Scan.{stands, startAt, failed};
 ghost use Rattle.lines.specs.Forms.{orderForm, hearForm, beaconForm, rollForm, readForm, asRole, orRole, readRole, readPost, bitOf, postAdded, postsRead, noPosts, scanOf, ended, yardPosts, readYard};
+
+// A line is read from a place on.
+fn start_at(at: usize) -> Scan
+    ensures { λ r. ⌜ r ≡ startAt at ⌝ }
+{
+    Scan {
+        ok: true,
+        at: at,
+        earlier: 0,
+        latest: 0,
+    }
+}
 
 // `(order LANE WORD)`
 pub(crate) fn read_order(s: &[u8], at: usize) -> Scan
@@ -195,4 +205,11 @@ fn end_yard(y: YardScan, c: Scan) -> YardScan
         dests: y.dests,
         rising: y.rising,
     }
+}
+
+// One of two numbers, by a test.
+fn pick(test: bool, yes: u8, no: u8) -> u8
+    ensures { λ r. ⌜ r ≡ cond test «yes» «no» ⌝ }
+{
+    if test { yes } else { no }
 }

@@ -1,21 +1,22 @@
 // Reads a script line by line, and judges it by refusals 1 to 5. The contracts cite the definitions of the crate `lines`:
-// Lines.antt, and for the private parts Scan.antt and Forms.antt besides.
+// Lines.antt and Values.antt, and for the private parts Forms.antt besides.
 mod forms;
 mod line_forms;
-mod scanning;
 
 use lines::Judged;
 use lines::Line;
 ghost use mathlib.Core.Path.{_≡_};
-ghost use Prim.Native.Nat.{_≤_};
-ghost use lib.ListN.{length};
+ghost use Prim.Native.Nat.{_+_, _≤_};
+ghost use lib.ListN.{length, getD};
 ghost use Rattle.lines.specs.Lines.{lineAt, numberOf, nextOf, linesOf, judgedLines, judged};
+ghost use Rattle.lines.specs.Values.{valuesOf, valuesAt};
 
 // The line that begins at a place: the letter after its `(` says which form it can have.
 pub fn read_line(s: &[u8], at: usize) -> Line
     ensures { λ r. ⌜ r ≡ lineAt (now (s .entry)) at ⌝ }
+    ensures values { λ r. ⌜ valuesOf r ≡ valuesAt (now (s .entry)) at ⌝ }
 {
-    let letter = scanning::byte_after(s, at);
+    let letter = byte_after(s, at);
     match letter {
         b'o' => line_forms::order_or_refused(s, at),
         b'h' => line_forms::hear_or_refused(s, at),
@@ -23,6 +24,17 @@ pub fn read_line(s: &[u8], at: usize) -> Line
         b'r' => line_forms::roll_or_refused(s, at),
         b'y' => line_forms::yard_or_refused(s, at),
         _ => Line::Refused(2),
+    }
+}
+
+// What stands after a place, and 0 past the end.
+fn byte_after(s: &[u8], at: usize) -> u8
+    ensures { λ r. ⌜ r ≡ getD (now (s .entry)) (at + 1) 0 ⌝ }
+{
+    if at < s.len() {
+        scan::byte_at(s, at + 1)
+    } else {
+        0
     }
 }
 

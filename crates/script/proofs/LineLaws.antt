@@ -1,35 +1,22 @@
 -- The lines that are left to run at a place, and what is left to print. Assumes nothing.
-use mathlib.Core.Path.{_≡_, refl, sym, ap, _∙_}
-use mathlib.Core.Bool.{Bool, true, false, cond, not}
-use mathlib.Core.List.{List, [], _∷_}
-use Prim.Native.Nat.{ℕ, zero, suc, _+_, _<_, _≤_}
-use native.Mathlib.Omega.{arith}
-use lib.Dec.{ltb, eqb}
+use mathlib.Core.Path.{_≡_, refl, sym, _∙_}
+use mathlib.Core.Bool.{not}
+use mathlib.Core.List.{List, _∷_}
+use Prim.Native.Nat.{ℕ, _+_, _<_, _≤_}
+use lib.Dec.{eqb}
 use lib.ListN.{length}
-use borrow.Author.Tests.{ltb-true, lt-ltb, le-ltb}
 use Rattle.text.specs.Decimal.{given}
 use Rattle.text.specs.Writing.{Out, wrote}
 use Rattle.text.proofs.Laws.{wrote-append}
 use Rattle.lines.specs.declared.Line.{Line}
-use Rattle.lines.specs.Lines.{lineAt, nextOf, linesFrom}
-use Rattle.reader.proofs.Progress.{next-above}
+use Rattle.lines.specs.Lines.{lineAt, nextOf}
+use Rattle.written.proofs.LineLists.{lines-none, lines-more}
 use Rattle.yard.specs.declared.Yard.{Yard}
 use Rattle.yard.specs.Worlds.{World, worldOf}
 use Rattle.roll.specs.Runs.{run}
 use Rattle.meaning.specs.Texts.{refusedText}
 use Rattle.meaning.specs.Script.{stepOf, refusalOf, worldAfter, refusedLines}
 use Rattle.script.specs.Lines.{rest}
-
--- the line at a place
-lines-one : (s : List ℕ) (at n : ℕ) → at < length s → linesFrom s at (suc n) ≡ lineAt s at ∷ linesFrom s (nextOf s (lineAt s at)) n
-unfolding linesFrom
-lines-one s at n h = rw (lt-ltb at (length s) h)
-
--- at the end there is none
-lines-none : (s : List ℕ) (at n : ℕ) → length s ≤ at → linesFrom s at n ≡ []
-unfolding linesFrom
-lines-none s at zero h = refl
-lines-none s at (suc n) h = rw (le-ltb at (length s) h)
 
 -- the lines from the place `at` on lead to the same end as all lines from the place `from` on; the text so far is in o
 abbrev pub Left : List ℕ → World → ℕ → Out → World → ℕ → ℕ → Out → Type 0
@@ -56,35 +43,13 @@ refused-one : (o : Out) (w : World) (line : ℕ) (l : Line) (ls : List Line)
 unfolding refusedLines
 refused-one o w line l ls = sym (wrote-append o _ _)
 
--- a bound that is at least the number of bytes left gives the same lines as one more
-steady : (s : List ℕ) (n at : ℕ) → length s ≤ at + n → linesFrom s at (suc n) ≡ linesFrom s at n
-unfolding linesFrom
-steady s zero at low = rw (le-ltb at (length s) (omega arith))
-steady s (suc n) at low = go (ltb at (length s)) refl (λ (h : at < length s). steady s n (nextOf s (lineAt s at)) (omega (arith, next-above s at h)))
-  where
-    go : (b : Bool) → ltb at (length s) ≡ b
-        → (at < length s → linesFrom s (nextOf s (lineAt s at)) (suc n) ≡ linesFrom s (nextOf s (lineAt s at)) n)
-        → cond b (lineAt s at ∷ linesFrom s (nextOf s (lineAt s at)) (suc n)) [] ≡ cond b (lineAt s at ∷ linesFrom s (nextOf s (lineAt s at)) n) []
-    go true e more = ap (λ (ls : List Line). lineAt s at ∷ ls) (more (ltb-true at (length s) e))
-    go false e more = refl
-
--- the line at a place, and the lines after it
-rest-more : (s : List ℕ) (at : ℕ) → at < length s → rest s at ≡ lineAt s at ∷ rest s (nextOf s (lineAt s at))
-rest-more s at h = go (length s) refl
-  where
-    go : (n : ℕ) → length s ≡ n → linesFrom s at n ≡ lineAt s at ∷ linesFrom s (nextOf s (lineAt s at)) n
-    go zero e = absurd (omega arith)
-    go (suc n) e =
-        lines-one s at n h
-        ∙ ap (λ (ls : List Line). lineAt s at ∷ ls) (sym (steady s n (nextOf s (lineAt s at)) (omega (arith, next-above s at h))))
-
 -- one line more
 pub left-more : (s : List ℕ) (w₀ : World) (from : ℕ) (o₀ : Out) (y y′ : Yard) (air exit : List ℕ) (at line next n : ℕ) (o p : Out) (l : Line)
     → at < length s → l ≡ lineAt s at → n ≡ refusalOf (worldOf y air) (stepOf l) → y′ ≡ run (worldOf y air) (stepOf l) .yard
     → exit ≡ run (worldOf y air) (stepOf l) .air → p ≡ wrote o (given (not (eqb n 0)) (refusedText (line + 1) n)) → next ≡ nextOf s l
     → Left s w₀ from o₀ (worldOf y air) at line o → Left s w₀ from o₀ (worldOf y′ exit) next (line + 1) p
 left-more s w₀ from o₀ y y′ air exit at line next n o p l h el en ey ex ep ef left =
-    let lines = rest-more s at h in
+    let lines = lines-more s at h in
     let world-left = sym (world-one (worldOf y air) (lineAt s at) _) ∙ rw lines at (left .0) in
     let text-left = sym (refused-one o (worldOf y air) line (lineAt s at) _) ∙ rw lines at (left .1) in
     rw (ep, ex, ef, ey, en, el) (world-left, text-left)

@@ -6,10 +6,10 @@ use Prim.Native.Nat.{ℕ, _+_, _<_}
 use native.Mathlib.Omega.{arith}
 use lib.ListN.{length, length-append}
 use Rattle.text.specs.Bytes.{bytes}
-use Rattle.lines.specs.Scan.{readText, readNumber, stands, digitAt, failed}
+use Rattle.scan.specs.Scan.{readText, readNumber, stands, digitAt, failed}
 use Rattle.lines.specs.Forms.{Item, text, number, readForm}
-use Rattle.lines.specs.declared.Scan.{Scan}
-use Rattle.lines.proofs.Laws.{never, both, digit-low}
+use Rattle.scan.specs.declared.Scan.{Scan}
+use Rattle.scan.proofs.Laws.{never, both, digit-low}
 use Rattle.text.specs.Decimal.{decimal}
 use Rattle.written.proofs.Here.{Here, stands-here, here-stands, here-head, here-join, here-split}
 use Rattle.written.proofs.Number.{done, Read, number-sound, number-complete}

@@ -10,9 +10,9 @@ use lib.Dec.{eqb, ltb, leb}
 use lib.ListN.{length, getD, take, drop, length-append, length-drop, List·getD-append}
 use lib.Seq.{getD-append-add, getD-take, getD-drop, ext-getD, length-take-le}
 use borrow.Author.Tests.{eqb-true, eq-eqb, leb-true, le-leb, ltb-true, ltb-false}
-use Rattle.lines.specs.Scan.{allBelow, sameBytes, stands}
+use Rattle.scan.specs.Scan.{allBelow, sameBytes, stands}
 use Rattle.written.specs.Exact.{Stands}
-use Rattle.lines.proofs.Laws.{both}
+use Rattle.scan.proofs.Laws.{both}
 
 unfoldable pub Here : List ℕ → ℕ → List ℕ → Type 0
 Here s at t = (at + length t ≤ length s) × ((i : ℕ) → i < length t → getD s (at + i) 0 ≡ getD t i 0)

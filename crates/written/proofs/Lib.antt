@@ -11,3 +11,5 @@ pub mod PostsSound
 pub mod PostsComplete
 pub mod Yard
 pub mod Theorem
+pub mod LineLists
+pub mod WholeScripts

@@ -9,10 +9,10 @@ use lib.ListN.{length, length-append}
 use borrow.Author.Tests.{eq-eqb}
 use Rattle.text.specs.Bytes.{bytes}
 use Rattle.text.specs.Decimal.{decimal}
-use Rattle.lines.specs.declared.Scan.{Scan}
-use Rattle.lines.specs.Scan.{readText, readNumber, startAt, failed}
+use Rattle.scan.specs.declared.Scan.{Scan}
+use Rattle.scan.specs.Scan.{readText, readNumber, startAt, failed}
 use Rattle.lines.specs.Forms.{asRole, orRole, readRole, readPost}
-use Rattle.lines.proofs.Laws.{never}
+use Rattle.scan.proofs.Laws.{never}
 use Rattle.written.proofs.Here.{Here, here-head, here-join, here-split}
 use Rattle.written.proofs.Number.{done, number-sound}
 use Rattle.written.proofs.Forms.{text-sound, text-complete, no-digit, text-step, number-step, text-back, number-back}

@@ -13,7 +13,7 @@ use Rattle.text.specs.Bytes.{bytes}
 use Rattle.text.specs.Decimal.{decimal}
 use Rattle.cells.specs.Sets.{hasLane}
 use Rattle.lines.specs.declared.YardScan.{YardScan}
-use Rattle.lines.specs.Scan.{stands}
+use Rattle.scan.specs.Scan.{stands}
 use Rattle.lines.specs.Forms.{readPost, bitOf, postAdded, postsRead}
 use Rattle.written.specs.Written.{roleText, postTexts, Roles}
 use Rattle.written.proofs.Here.{Here, here-split, here-stands, stands-here, here-head}

@@ -9,12 +9,12 @@ use lib.Dec.{ltb}
 use lib.ListN.{length, length-append}
 use borrow.Author.Tests.{ltb-true}
 use Rattle.text.specs.Bytes.{bytes}
-use Rattle.lines.specs.declared.Scan.{Scan}
+use Rattle.scan.specs.declared.Scan.{Scan}
 use Rattle.lines.specs.declared.YardScan.{YardScan}
-use Rattle.lines.specs.Scan.{stands}
+use Rattle.scan.specs.Scan.{stands}
 use Rattle.lines.specs.Forms.{readPost, bitOf, postAdded, postsRead}
 use Rattle.written.specs.Written.{postTexts, Roles}
-use Rattle.lines.proofs.Laws.{both}
+use Rattle.scan.proofs.Laws.{both}
 use Rattle.written.proofs.Here.{Here, here-join}
 use Rattle.written.proofs.Number.{done}
 use Rattle.written.proofs.Posts.{roleName, postText, post-sound}

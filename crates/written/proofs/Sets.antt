@@ -10,9 +10,9 @@ use lib.Dec.{ltb, eqb}
 use lib.Pow.{pow-pos, pow-mono, pow-lt, mod-pow-add}
 use borrow.Author.Tests.{ltb-true, ltb-false, lt-ltb, ne-eqb}
 use Rattle.cells.specs.Sets.{hasLane}
-use Rattle.lines.specs.Scan.{allBelow}
+use Rattle.scan.specs.Scan.{allBelow}
 use Rattle.lines.specs.Forms.{bitOf}
-use Rattle.lines.proofs.Laws.{never}
+use Rattle.scan.proofs.Laws.{never}
 use Rattle.written.proofs.Here.{all-at}
 
 -- two binary digits joined

@@ -10,7 +10,7 @@ use borrow.Author.Tests.{eqb-true, eqb-false}
 use Rattle.text.specs.Bytes.{bytes}
 use Rattle.lines.specs.declared.Line.{Line}
 use Rattle.lines.specs.declared.Line.the-variants.{Order, Hear, Beacon, Roll, Refused}
-use Rattle.lines.specs.Scan.{startAt}
+use Rattle.scan.specs.Scan.{startAt}
 use Rattle.lines.specs.Forms.{readForm, orderForm, hearForm, beaconForm, rollForm}
 use Rattle.lines.specs.Lines.{lineAt, hearOr, beaconOr, rollOr, yardOr, orderLine, hearLine, beaconLine, rollLine, stepLineRefusal, numberOf, nextOf}
 use Rattle.written.specs.Written.{lineText, Right}

@@ -8,9 +8,9 @@ use lib.Dec.{eqb}
 use lib.ListN.{length, getD}
 use borrow.Author.Tests.{eq-eqb, ne-eqb, le-ltb}
 use Rattle.text.specs.Bytes.{bytes}
-use Rattle.lines.specs.declared.Scan.{Scan}
+use Rattle.scan.specs.declared.Scan.{Scan}
 use Rattle.lines.specs.declared.Line.the-variants.{Order, Hear, Beacon, Roll}
-use Rattle.lines.specs.Scan.{readText, readNumber, startAt}
+use Rattle.scan.specs.Scan.{readText, readNumber, startAt}
 use Rattle.lines.specs.Forms.{Item, text, number, readItems, readForm, orderForm, hearForm, beaconForm, rollForm}
 use Rattle.lines.specs.Lines.{lineAt, hearOr, beaconOr, rollOr, yardOr, orderLine, hearLine, beaconLine, rollLine, stepLineRefusal}
 use Rattle.written.proofs.Here.{Here, here-at}

@@ -13,7 +13,7 @@ use Rattle.text.specs.Bytes.{bytes}
 use Rattle.cells.specs.Sets.{hasLane}
 use Rattle.lines.specs.Forms.{bitOf}
 use Rattle.written.specs.Written.{roleText, postTexts, Roles}
-use Rattle.lines.proofs.Laws.{never}
+use Rattle.scan.proofs.Laws.{never}
 use Rattle.written.proofs.Sets.{has-or, has-bit, has-above, has-none}
 use Rattle.written.proofs.Posts.{roleName, postText}
 

@@ -8,14 +8,14 @@ use lib.Dec.{ltb, eqb}
 use lib.ListN.{length, length-append}
 use borrow.Author.Tests.{eqb-true, ltb-true, lt-ltb, eq-eqb}
 use Rattle.text.specs.Bytes.{bytes}
-use Rattle.lines.specs.declared.Scan.{Scan}
+use Rattle.scan.specs.declared.Scan.{Scan}
 use Rattle.lines.specs.declared.YardScan.{YardScan}
 use Rattle.lines.specs.declared.Line.the-variants.{Yard, Refused}
-use Rattle.lines.specs.Scan.{stands, startAt, readText}
+use Rattle.scan.specs.Scan.{stands, startAt, readText}
 use Rattle.lines.specs.Forms.{readPost, postAdded, postsRead, noPosts, scanOf, yardPosts, readYard}
-use Rattle.lines.specs.Lines.{lineAt, yardOr, yardLine, numberOf}
+use Rattle.lines.specs.Lines.{lineAt, yardOr, yardLineRefusal, yardLine, numberOf}
 use Rattle.written.specs.Written.{postTexts, lineText, Right}
-use Rattle.lines.proofs.Laws.{both}
+use Rattle.scan.proofs.Laws.{both}
 use Rattle.written.proofs.Here.{Here, here-at, here-join, here-split}
 use Rattle.written.proofs.Number.{done}
 use Rattle.written.proofs.Forms.{text-sound, text-complete}
@@ -67,14 +67,14 @@ written-yard s at p so d mid next z l g b e n =
     )
 
 yard-or-sound : (s : List ℕ) (at : ℕ) → Sound s at (yardOr s at)
-unfolding yardOr yardLine Sound
+unfolding yardOr yardLineRefusal yardLine Sound
 yard-or-sound s at = go (readYard s at .ok) refl
   where
     y : YardScan
     y = readYard s at
 
     line : (t : Bool) → (eqb at 0 && y .rising && ltb 0 (y .posts)) ≡ t → y .ok ≡ true
-        → Sound s at (cond t (Yard (y .posts) (y .sources) (y .dests) (y .at)) (Refused 3))
+        → Sound s at (cond (eqb (cond t 0 3) 0) (Yard (y .posts) (y .sources) (y .dests) (y .at)) (Refused (cond t 0 3)))
     line true e k n =
         let a = both (eqb at 0 && y .rising) (ltb 0 (y .posts)) e in
         let b = both (eqb at 0) (y .rising) (a .0) in
@@ -99,7 +99,7 @@ yard-sound s at posts sources dests next e = let w = sound s at (ap numberOf e) 
 -- ---- what is written is read
 
 pub yard-complete : (s : List ℕ) (at p so d next : ℕ) → Right at (Yard p so d next) → Here s at (yardText p so d) → lineAt s at ≡ Yard p so d (at + length (yardText p so d))
-unfolding yardOr yardLine readYard
+unfolding yardOr yardLineRefusal yardLine readYard
 yard-complete s at p so d next g h =
     let a = here-split s (bytes "(yard" ++ postTexts p so d 8) (bytes ")\n") at h in
     let b = here-split s (bytes "(yard") (postTexts p so d 8) at (a .0) in

@@ -18,12 +18,12 @@ loop-holds c = (omega arith, judging-start _)
 loop-less : tie.Need-loop-less Inv-loop μ-loop
 loop-less c =
     let t = c .before .before .before .loop-test .taken in
-    omega (arith, line-above _ _ _ _ t (c .before .before .read-line .ensures) (c .next-of .ensures))
+    omega (arith, line-above _ _ _ _ t (c .before .before .read-line .ensures .0) (c .next-of .ensures))
 
 loop-again : tie.Need-loop-again Inv-loop μ-loop
 loop-again c =
     let t = c .before .before .before .loop-test .taken in
-    let r = c .before .before .read-line .ensures in
+    let r = c .before .before .read-line .ensures .0 in
     let n = c .next-of .ensures in
     let i = c .before .before .before .before .loop .inv in
     (omega (arith, line-above _ _ _ _ t r n), judging-next _ _ _ _ _ _ _ (i .1) t r (c .before .number-of .ensures) n)

@@ -23,11 +23,11 @@ loop-holds : tie.Need-loop-holds Inv-loop μ-loop
 loop-holds c = (all-left _ _ _ _, refl)
 
 loop-less : tie.Need-loop-less Inv-loop μ-loop
-loop-less c = omega (arith, line-above _ _ _ _ (c .before .before .before .before .before .before .before .before .loop-test .taken) (c .before .before .before .before .before .before .before .read-line .ensures) (c .next-of .ensures))
+loop-less c = omega (arith, line-above _ _ _ _ (c .before .before .before .before .before .before .before .before .loop-test .taken) (c .before .before .before .before .before .before .before .read-line .ensures .0) (c .next-of .ensures))
 
 loop-again : tie.Need-loop-again Inv-loop μ-loop
 loop-again c = (
-  left-more _ _ _ _ _ _ _ _ _ _ _ (c .before .before .before .before .before .before .before .before .loop-test .taken) (c .before .before .before .before .before .before .before .read-line .ensures) (c .before .before .before .before .before .run-step .ensures .0) (c .before .before .before .before .before .run-step .ensures .1) (c .next-of .ensures) (c .before .before .before .before .before .before .before .before .before .loop .inv .0),
+  left-more _ _ _ _ _ _ _ _ _ _ _ (c .before .before .before .before .before .before .before .before .loop-test .taken) (c .before .before .before .before .before .before .before .read-line .ensures .0) (c .before .before .before .before .before .run-step .ensures .0) (c .before .before .before .before .before .run-step .ensures .1) (c .next-of .ensures) (c .before .before .before .before .before .before .before .before .before .loop .inv .0),
   c .before .before .before .before .before .run-step .kept .1 .0 ∙ c .before .before .before .before .before .before .before .before .before .loop .inv .1,
 )
 

@@ -4,7 +4,7 @@ use mathlib.Core.Bool.{_&&_}
 use Prim.Native.Nat.{_-_}
 use lib.ListN.{length}
 use Rattle.text.specs.Bytes.{bytes}
-use Rattle.lines.specs.Scan.{stands}
+use Rattle.scan.specs.Scan.{stands}
 use Rattle.reader.proofs.FormsLaws.{PostsLeft, posts-start, posts-next, posts-measure, posts-end}
 use Rattle.reader.proofs.forms.read_posts.Statement.{statement}
 use Rattle.reader.proofs.forms.read_posts.Tie as tie

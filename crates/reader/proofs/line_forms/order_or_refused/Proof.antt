@@ -1,7 +1,7 @@
 use mathlib.Core.Path.{refl}
 use native.Mathlib.Omega.{arith}
 use Rattle.lines.specs.Lines.{orderLine}
-use Rattle.lines.specs.declared.Scan.{Scan}
+use Rattle.scan.specs.declared.Scan.{Scan}
 use Rattle.reader.proofs.LinesLaws.{step-small, line-yes, line-no, or-yes, or-no}
 use Rattle.reader.proofs.line_forms.order_or_refused.Statement.{statement}
 use Rattle.reader.proofs.line_forms.order_or_refused.Tie as tie

@@ -1,6 +1,6 @@
 use mathlib.Core.Path.{refl}
 use Rattle.lines.specs.Lines.{rollLine}
-use Rattle.lines.specs.declared.Scan.{Scan}
+use Rattle.scan.specs.declared.Scan.{Scan}
 use Rattle.reader.proofs.LinesLaws.{line-yes, line-no, or-yes, or-no}
 use Rattle.reader.proofs.line_forms.roll_or_refused.Statement.{statement}
 use Rattle.reader.proofs.line_forms.roll_or_refused.Tie as tie

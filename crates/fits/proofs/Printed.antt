@@ -47,8 +47,7 @@ module _ (s air : List ℕ) where
   unfolding FromYard
   from-yard posts sources dests next e =
       let r = accepted s 0 (Yard posts sources dests next) e refl .0 in
-      let good = yard-accepted posts sources dests (r .1) (r .5) (r .6) in
-      (
+      let good = yard-accepted posts sources dests (r .1) (r .5) (r .6) in (
         posts,
         sources,
         dests,

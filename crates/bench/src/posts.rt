@@ -1,154 +1,177 @@
-// The bench's stories, played by posts run singly that hand each other their broadcasts.
-// The yard is that of the printed script: `(yard (0 both) (1 source) (2 dest))`.
-use crate::printing::print_frames;
-use crate::printing::print_heard;
-use crate::printing::print_log;
-use crate::printing::print_number;
+// Scripts told by posts run singly, which hand each other their broadcasts: frame k is the k-th broadcast.
+use crate::Setting;
+use crate::answers::put_line;
+use crate::answers::put_sent;
+use crate::cases::after;
+use crate::cases::part;
 use frame::Stamp;
+use lines::Line;
+use post::Head;
 use post::Post;
+use steps::HearAnswer;
 use steps::OrderAnswer;
+use text::put_text;
 
-// P1 and P2, as far as posts run singly tell them.
-pub(crate) fn printed_script() {
-    let mut frame0 = [0u8; 32];
-    let mut frame1 = [0u8; 32];
-    let mut frame2 = [0u8; 32];
-    let mut frame4 = [0u8; 32];
-    let p0 = ordered(fresh(0), 417, &mut frame0);
-    let p1 = heard(
-        b"P1 post 1 hears frame 0",
-        b"taken 0",
-        fresh(1),
-        &frame0,
-        &mut frame1,
-    );
-    let p1 = ordered(p1, 90, &mut frame2);
-    let p2 = listened(b"P1 post 2 hears frame 1", b"taken 1", fresh(2), &frame1);
-    let p0 = heard(
-        b"P1 post 0 hears frame 2",
-        b"taken 2",
-        p0,
-        &frame2,
-        &mut frame4,
-    );
-    print_number(b"P1 clock of post 0", 4, p0.clock.0);
-    print_number(b"P1 clock of post 1", 3, p1.clock.0);
-    print_number(b"P1 clock of post 2", 0, p2.clock.0);
-    print_log(b"P1 log of post 0", b" (1 0 417) (3 1 90)", p0);
-    print_log(b"P1 log of post 1", b"", p1);
-    print_log(b"P1 log of post 2", b" (1 0 417)", p2);
-    print_frames(b"P2 frame 4 broadcast", &crate::frames::FRAME_4, &frame4);
+// The posts, how many bytes of the air their broadcasts fill, the last step's buffer, and the place after the answers.
+struct Story {
+    pub posts: [Post; 8],
+    pub end: usize,
+    pub buffer: [u8; 32],
+    pub to: usize,
 }
 
-// P3, its hearings: frame 2 before frame 0.
-pub(crate) fn heard_out_of_order() {
-    let mut frame0 = [0u8; 32];
-    let mut frame2 = [0u8; 32];
-    ordered(fresh(0), 417, &mut frame0);
-    let p1 = listened(b"P3 post 1 hears frame 0", b"taken 0", fresh(1), &frame0);
-    ordered(p1, 90, &mut frame2);
-    hear_2_before_0(&frame2, &frame0);
-}
-
-fn hear_2_before_0<'a>(frame2: &'a [u8], frame0: &'a [u8]) {
-    let p2 = listened(b"P3 post 2 hears frame 2", b"taken 0", fresh(2), frame2);
-    print_log(b"P3 log of post 2", b"", p2);
-    let p2 = listened(b"P3 post 2 hears frame 0", b"taken 1", p2, frame0);
-    print_log(b"P3 log of post 2 then", b" (1 0 417)", p2);
-}
-
-// P7: a frame heard twice. P8: serial 2 heard before serial 1.
-pub(crate) fn heard_again_and_early() {
-    let mut first = [0u8; 32];
-    let mut second = [0u8; 32];
-    let p0 = ordered(fresh(0), 417, &mut first);
-    ordered(p0, 418, &mut second);
-    hear_twice(&first);
-    hear_2_before_1(&second, &first);
-}
-
-fn hear_twice(first: &[u8]) {
-    let p1 = listened(b"P7 post 1 hears frame 0", b"taken 0", fresh(1), first);
-    print_number(b"P7 clock of post 1", 2, p1.clock.0);
-    let p1 = listened(b"P7 post 1 hears frame 0 again", b"again 0", p1, first);
-    print_number(b"P7 clock of post 1 then", 2, p1.clock.0);
-}
-
-fn hear_2_before_1<'a>(second: &'a [u8], first: &'a [u8]) {
-    let p1 = listened(b"P8 post 1 hears serial 2", b"early 0", fresh(1), second);
-    listened(b"P8 post 1 hears serial 1 then", b"taken 0", p1, first);
-}
-
-// P5, its order; sixteen orders and a seventeenth; a clock that has one reading left.
-pub(crate) fn limits() {
-    print_log(b"P5 log", b" (1 0 5)", sent(Post::new(0, 1, 1, 1), 5));
-    let p = fifteen_sent();
-    print_number(b"sixteenth order", 0, order_number(p));
-    print_number(b"seventeenth order", 23, order_number(sent(p, 15)));
-    print_number(b"order at clock 65534", 0, order_number(clock_at(65534)));
-    print_number(b"order at clock 65535", 24, order_number(clock_at(65535)));
-}
-
-fn fifteen_sent() -> Post {
-    let mut p = fresh(0);
-    for word in 0..15u16 {
-        p = sent(p, word);
+// The answers, a post's line of the printout, or the last step's buffer.
+pub(crate) fn play(
+    letter: u8,
+    number: usize,
+    set: Setting,
+    script: &[u8],
+    came: &mut [u8],
+) -> usize {
+    let mut air = [0u8; 65536];
+    let first = reader::read_line(script, 0);
+    let Line::Yard {
+        posts,
+        sources,
+        dests,
+        next: _,
+    } = first else {
+        return 0;
+    };
+    let s = play_lines(fresh(posts, sources, dests, set), script, &mut air, came);
+    match letter {
+        b's' => s.to,
+        b'h' => put_post(s, number, came),
+        b'b' => put_text(came, 0, &s.buffer),
+        _ => 0,
     }
-    p
 }
 
-fn fresh(lane: u8) -> Post {
-    let made = single::fresh(lane, 7, 3, 5);
-    let post = made.post;
-    post
+fn play_lines(begun: Story, script: &[u8], air: &mut [u8], came: &mut [u8]) -> Story {
+    let mut s = begun;
+    let mut at = after(script, 0, b'\n');
+    while at < script.len() {
+        let l = reader::read_line(script, at);
+        s = play_line(s, l, air, came);
+        at = after(script, at, b'\n');
+    }
+    s
 }
 
-fn clock_at(reading: u16) -> Post {
-    let clock = Stamp(reading);
-    let mut p = fresh(0);
-    p.clock = clock;
-    p
+// The fresh posts of a yard, of which one has its clock set.
+fn fresh(posts: u8, sources: u8, dests: u8, set: Setting) -> Story {
+    let mut all = [
+        Post::new(0, posts, sources, dests),
+        Post::new(1, posts, sources, dests),
+        Post::new(2, posts, sources, dests),
+        Post::new(3, posts, sources, dests),
+        Post::new(4, posts, sources, dests),
+        Post::new(5, posts, sources, dests),
+        Post::new(6, posts, sources, dests),
+        Post::new(7, posts, sources, dests),
+    ];
+    let lane = set.first;
+    if lane < 8 {
+        let clock = Stamp((set.second % 65536) as u16);
+        let mut p = all[lane];
+        p.clock = clock;
+        all[lane] = p;
+    }
+    Story {
+        posts: all,
+        end: 0,
+        buffer: [0u8; 32],
+        to: 0,
+    }
 }
 
-// The post after an order, whose broadcast goes into the buffer.
-fn ordered(p: Post, word: u16, buffer: &mut [u8]) -> Post {
-    let done = single::order(p, word, buffer);
-    let post = done.post;
-    post
+fn play_line(s: Story, l: Line, air: &mut [u8], came: &mut [u8]) -> Story {
+    match l {
+        Line::Order {
+            lane,
+            word,
+            next: _,
+        } => order(s, lane, word, air, came),
+        Line::Hear {
+            lane,
+            frame,
+            next: _,
+        } => hear(s, lane, frame, air, came),
+        _ => s,
+    }
 }
 
-// The post after a hearing, whose broadcast goes into the buffer.
-fn heard<'a>(
-    name: &'a [u8],
-    expected: &'a [u8],
-    p: Post,
-    frame: &'a [u8],
-    buffer: &mut [u8],
-) -> Post {
-    let done = single::hear(p, frame, buffer);
+fn order(s: Story, lane: u8, word: u16, air: &mut [u8], came: &mut [u8]) -> Story {
+    let mut buffer = [0u8; 32];
+    let p = s.posts[(lane % 8) as usize];
+    let done = single::order(p, word, &mut buffer);
     let answer = done.answer;
-    print_heard(name, expected, answer);
     let post = done.post;
-    post
+    let to = put_ordered(answer, came, s.to);
+    broadcast(s, post, to, buffer, air)
 }
 
-// The same with nobody to hear the broadcast.
-fn sent(p: Post, word: u16) -> Post {
-    let mut buffer = [0u8; 32];
-    ordered(p, word, &mut buffer)
-}
-
-fn listened<'a>(name: &'a [u8], expected: &'a [u8], p: Post, frame: &'a [u8]) -> Post {
-    let mut buffer = [0u8; 32];
-    heard(name, expected, p, frame, &mut buffer)
-}
-
-fn order_number(p: Post) -> u16 {
-    let mut buffer = [0u8; 32];
-    let done = single::order(p, 0, &mut buffer);
-    let answer = done.answer;
+fn put_ordered(answer: OrderAnswer, came: &mut [u8], to: usize) -> usize {
     match answer {
-        OrderAnswer::Sent { .. } => 0,
-        OrderAnswer::Refused(number) => number as u16,
+        OrderAnswer::Sent {
+            serial,
+            stamp,
+            count,
+        } => put_sent(came, to, serial.0, stamp.0, count),
+        OrderAnswer::Refused(number) => put_line(came, to, b"refused ", number as u16),
     }
+}
+
+fn hear(s: Story, lane: u8, frame: u32, air: &mut [u8], came: &mut [u8]) -> Story {
+    let mut buffer = [0u8; 32];
+    let p = s.posts[(lane % 8) as usize];
+    let heard = air::stretch(air, s.end / 32, frame as usize);
+    let done = single::hear(p, heard, &mut buffer);
+    let answer = done.answer;
+    let post = done.post;
+    let to = put_heard(answer, came, s.to);
+    broadcast(s, post, to, buffer, air)
+}
+
+fn put_heard(answer: HearAnswer, came: &mut [u8], to: usize) -> usize {
+    match answer {
+        HearAnswer::Taken(count) => put_line(came, to, b"taken ", count as u16),
+        HearAnswer::Again(count) => put_line(came, to, b"again ", count as u16),
+        HearAnswer::Early(count) => put_line(came, to, b"early ", count as u16),
+        HearAnswer::Beacon(count) => put_line(came, to, b"beacon ", count as u16),
+        HearAnswer::Refused(number) => put_line(came, to, b"refused ", number as u16),
+    }
+}
+
+// The story after a step of a post, whose broadcast, if there is one, is the air's next frame.
+fn broadcast(s: Story, p: Post, to: usize, buffer: [u8; 32], air: &mut [u8]) -> Story {
+    let length = cells::pick(buffer[0] != 0, 32, 0);
+    let end = put_text(air, s.end, part(&buffer, 0, length as usize));
+    let mut posts = s.posts;
+    posts[(p.lane % 8) as usize] = p;
+    Story {
+        posts: posts,
+        end: end,
+        buffer: buffer,
+        to: to,
+    }
+}
+
+fn put_post(s: Story, lane: usize, came: &mut [u8]) -> usize {
+    let p = s.posts[lane % 8];
+    let clock = p.clock;
+    let serial = p.serial;
+    let head = Head {
+        lane: p.lane,
+        posts: p.posts,
+        sources: p.sources,
+        dests: p.dests,
+        clock: clock,
+        serial: serial,
+        logged: p.logged,
+    };
+    let stamps = p.stamps;
+    let words = p.words;
+    let log = p.log;
+    printout::put_post(came, 0, head, &stamps, &words, &log)
 }

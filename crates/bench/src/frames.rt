@@ -8,15 +8,10 @@ use text::put_text;
 pub(crate) fn reads(bytes: &[u8], came: &mut [u8]) -> usize {
     let mut fields = [0u16; 22];
     let number = frame::drift_frame_read(bytes, &mut fields);
-    let n = put_labelled(came, 0, b"", number as u16);
-    put_numbers(&fields, came, n)
-}
-
-fn put_numbers(numbers: &[u16], came: &mut [u8], to: usize) -> usize {
-    let mut n = to;
+    let mut n = put_labelled(came, 0, b"", number as u16);
     let mut i = 0usize;
-    while i < numbers.len() {
-        n = put_labelled(came, n, b" ", numbers[i]);
+    while i < 22 {
+        n = put_labelled(came, n, b" ", fields[i]);
         i += 1;
     }
     put_byte(came, n, b'\n')

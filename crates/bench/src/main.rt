@@ -31,11 +31,18 @@ pub(crate) struct Setting {
 fn main() {
     let mut file = [0u8; 131072];
     let n = io::read_full(STDIN_FILENO, &mut file);
-    run_file(&file[..n]);
+    let counts = run_file(&file[..n]);
+    let different = std::num::wrapping_sub_u16(counts.cases, counts.same);
+    let mut line = [0u8; 64];
+    let to = put_labelled(&mut line, 0, b"", counts.cases);
+    let to = put_labelled(&mut line, to, b" cases, ", counts.same);
+    let to = put_labelled(&mut line, to, b" same, ", different);
+    let to = put_text(&mut line, to, b" different\n");
+    io::write_all(STDOUT_FILENO, part(&line, 0, to));
 }
 
-// Runs each case on the input that stands above it, and counts.
-fn run_file(file: &[u8]) {
+// Runs each case on the input that stands above it.
+fn run_file(file: &[u8]) -> Counts {
     let mut counts = Counts { cases: 0, same: 0 };
     let mut input = 0usize;
     let mut at = 0usize;
@@ -49,13 +56,7 @@ fn run_file(file: &[u8]) {
         }
         at = after(file, at, b'\n');
     }
-    let mut line = [0u8; 64];
-    let different = std::num::wrapping_sub_u16(counts.cases, counts.same);
-    let n = put_labelled(&mut line, 0, b"", counts.cases);
-    let n = put_labelled(&mut line, n, b" cases, ", counts.same);
-    let n = put_labelled(&mut line, n, b" same, ", different);
-    let n = put_text(&mut line, n, b" different\n");
-    io::write_all(STDOUT_FILENO, part(&line, 0, n));
+    counts
 }
 
 // The case and the input whose headings stand at these places.
@@ -114,12 +115,9 @@ fn run_verb<'a>(
 ) -> usize {
     match letter {
         b'p' => yards::run(input, set.first, true, came),
-        b'a' => yards::answers(input, set.first, true, came),
-        b'l' => yards::answers(input, set.first, false, came),
+        b'a' | b'l' => yards::answers(input, set.first, letter == b'a', came),
         b'e' => yards::equals(input, expected, set.first, came),
-        b'f' => yards::shows(input, 7692 + number % 2048 * 32, 32, came),
-        b'n' => yards::shows(input, 7432, 2, came),
-        b't' => yards::shows(input, 15 + number % 8 * 928, 8, came),
+        b'f' | b'n' | b't' => yards::shows(letter, number, input, came),
         b'j' => answers::put_line(came, 0, b"", frame::drift_frame_check(input) as u16),
         b'r' => frames::reads(input, came),
         b'w' => frames::writes(input, number, came),

@@ -1,7 +1,6 @@
-// Scripts told by posts run singly, which hand each other their broadcasts: frame k is the k-th broadcast.
+// One post of a script run singly: its own steps, with the frames that the whole script leaves on the air.
 use crate::Setting;
-use crate::answers::put_line;
-use crate::answers::put_sent;
+use crate::answers::put_told;
 use crate::cases::after;
 use crate::cases::part;
 use frame::Stamp;
@@ -12,42 +11,58 @@ use steps::HearAnswer;
 use steps::OrderAnswer;
 use text::put_text;
 
-// The posts, how many bytes of the air their broadcasts fill, the last step's buffer, and the place after the answers.
+// The post after some of its steps, the place after their answers, and the buffer lent for the last of them.
 struct Story {
-    pub posts: [Post; 8],
-    pub end: usize,
-    pub buffer: [u8; 32],
+    pub post: Post,
     pub to: usize,
+    pub buffer: [u8; 32],
 }
 
-// The answers, a post's line of the printout, or the last step's buffer.
+// What the post's steps answer, its line of the printout after them, or the last one's buffer.
 pub(crate) fn play(
     letter: u8,
-    number: usize,
+    lane: usize,
     set: Setting,
     script: &[u8],
     came: &mut [u8],
 ) -> usize {
-    let mut air = [0u8; 65536];
+    let mut left = [0u8; 73229];
+    crate::yards::run(script, 65536, false, &mut left);
     let first = reader::read_line(script, 0);
-    let Line::Yard {
-        posts,
-        sources,
-        dests,
-        next: _,
-    } = first else {
-        return 0;
-    };
-    let s = play_lines(fresh(posts, sources, dests, set), script, &mut air, came);
+    let s = begin(first, (lane % 8) as u8, set);
+    let s = play_lines(s, script, part(&left, 7692, 73228), came);
     match letter {
         b's' => s.to,
-        b'h' => put_post(s, number, came),
+        b'h' => put_post(s.post, came),
         b'b' => put_text(came, 0, &s.buffer),
         _ => 0,
     }
 }
 
-fn play_lines(begun: Story, script: &[u8], air: &mut [u8], came: &mut [u8]) -> Story {
+// The fresh post of a lane, or one whose clock is set.
+fn begin(l: Line, lane: u8, set: Setting) -> Story {
+    let mut p = Post::new(lane, 0, 0, 0);
+    if let Line::Yard {
+        posts,
+        sources,
+        dests,
+        next: _,
+    } = l
+    {
+        p = Post::new(lane, posts, sources, dests);
+    }
+    if set.first == lane as usize {
+        let clock = Stamp((set.second % 65536) as u16);
+        p.clock = clock;
+    }
+    Story {
+        post: p,
+        to: 0,
+        buffer: [0u8; 32],
+    }
+}
+
+fn play_lines<'a>(begun: Story, script: &'a [u8], air: &'a [u8], came: &mut [u8]) -> Story {
     let mut s = begun;
     let mut at = after(script, 0, b'\n');
     while at < script.len() {
@@ -58,107 +73,83 @@ fn play_lines(begun: Story, script: &[u8], air: &mut [u8], came: &mut [u8]) -> S
     s
 }
 
-// The fresh posts of a yard, of which one has its clock set.
-fn fresh(posts: u8, sources: u8, dests: u8, set: Setting) -> Story {
-    let mut all = [
-        Post::new(0, posts, sources, dests),
-        Post::new(1, posts, sources, dests),
-        Post::new(2, posts, sources, dests),
-        Post::new(3, posts, sources, dests),
-        Post::new(4, posts, sources, dests),
-        Post::new(5, posts, sources, dests),
-        Post::new(6, posts, sources, dests),
-        Post::new(7, posts, sources, dests),
-    ];
-    let lane = set.first;
-    if lane < 8 {
-        let clock = Stamp((set.second % 65536) as u16);
-        let mut p = all[lane];
-        p.clock = clock;
-        all[lane] = p;
-    }
-    Story {
-        posts: all,
-        end: 0,
-        buffer: [0u8; 32],
-        to: 0,
-    }
-}
-
-fn play_line(s: Story, l: Line, air: &mut [u8], came: &mut [u8]) -> Story {
+// The post's story after a line.
+fn play_line(s: Story, l: Line, air: &[u8], came: &mut [u8]) -> Story {
     match l {
         Line::Order {
             lane,
             word,
             next: _,
-        } => order(s, lane, word, air, came),
+        } => order(s, lane, word, came),
         Line::Hear {
             lane,
             frame,
             next: _,
-        } => hear(s, lane, frame, air, came),
+        } => hear(s, lane, air::stretch(air, 2048, frame as usize), came),
         _ => s,
     }
 }
 
-fn order(s: Story, lane: u8, word: u16, air: &mut [u8], came: &mut [u8]) -> Story {
+fn order(s: Story, lane: u8, word: u16, came: &mut [u8]) -> Story {
+    if lane != s.post.lane {
+        return s;
+    }
     let mut buffer = [0u8; 32];
-    let p = s.posts[(lane % 8) as usize];
+    let p = s.post;
     let done = single::order(p, word, &mut buffer);
     let answer = done.answer;
     let post = done.post;
-    let to = put_ordered(answer, came, s.to);
-    broadcast(s, post, to, buffer, air)
+    let to = put_told(&order_told(answer), came, s.to);
+    Story {
+        post: post,
+        to: to,
+        buffer: buffer,
+    }
 }
 
-fn put_ordered(answer: OrderAnswer, came: &mut [u8], to: usize) -> usize {
+fn order_told(answer: OrderAnswer) -> [u8; 8] {
     match answer {
         OrderAnswer::Sent {
             serial,
             stamp,
             count,
-        } => put_sent(came, to, serial.0, stamp.0, count),
-        OrderAnswer::Refused(number) => put_line(came, to, b"refused ", number as u16),
+        } => {
+            let high = (stamp.0 / 256) as u8;
+            let low = (stamp.0 % 256) as u8;
+            [1, 0, count, serial.0, high, low, 0, 0]
+        }
+        OrderAnswer::Refused(number) => [0, number, 0, 0, 0, 0, 0, 0],
     }
 }
 
-fn hear(s: Story, lane: u8, frame: u32, air: &mut [u8], came: &mut [u8]) -> Story {
+fn hear(s: Story, lane: u8, frame: &[u8], came: &mut [u8]) -> Story {
+    if lane != s.post.lane {
+        return s;
+    }
     let mut buffer = [0u8; 32];
-    let p = s.posts[(lane % 8) as usize];
-    let heard = air::stretch(air, s.end / 32, frame as usize);
-    let done = single::hear(p, heard, &mut buffer);
+    let p = s.post;
+    let done = single::hear(p, frame, &mut buffer);
     let answer = done.answer;
     let post = done.post;
-    let to = put_heard(answer, came, s.to);
-    broadcast(s, post, to, buffer, air)
-}
-
-fn put_heard(answer: HearAnswer, came: &mut [u8], to: usize) -> usize {
-    match answer {
-        HearAnswer::Taken(count) => put_line(came, to, b"taken ", count as u16),
-        HearAnswer::Again(count) => put_line(came, to, b"again ", count as u16),
-        HearAnswer::Early(count) => put_line(came, to, b"early ", count as u16),
-        HearAnswer::Beacon(count) => put_line(came, to, b"beacon ", count as u16),
-        HearAnswer::Refused(number) => put_line(came, to, b"refused ", number as u16),
-    }
-}
-
-// The story after a step of a post, whose broadcast, if there is one, is the air's next frame.
-fn broadcast(s: Story, p: Post, to: usize, buffer: [u8; 32], air: &mut [u8]) -> Story {
-    let length = cells::pick(buffer[0] != 0, 32, 0);
-    let end = put_text(air, s.end, part(&buffer, 0, length as usize));
-    let mut posts = s.posts;
-    posts[(p.lane % 8) as usize] = p;
+    let to = put_told(&hear_told(answer), came, s.to);
     Story {
-        posts: posts,
-        end: end,
-        buffer: buffer,
+        post: post,
         to: to,
+        buffer: buffer,
     }
 }
 
-fn put_post(s: Story, lane: usize, came: &mut [u8]) -> usize {
-    let p = s.posts[lane % 8];
+fn hear_told(answer: HearAnswer) -> [u8; 8] {
+    match answer {
+        HearAnswer::Taken(count) => [2, 0, count, 0, 0, 0, 0, 0],
+        HearAnswer::Again(count) => [3, 0, count, 0, 0, 0, 0, 0],
+        HearAnswer::Early(count) => [4, 0, count, 0, 0, 0, 0, 0],
+        HearAnswer::Beacon(count) => [5, 0, count, 0, 0, 0, 0, 0],
+        HearAnswer::Refused(number) => [0, number, 0, 0, 0, 0, 0, 0],
+    }
+}
+
+fn put_post(p: Post, came: &mut [u8]) -> usize {
     let clock = p.clock;
     let serial = p.serial;
     let head = Head {

@@ -38,11 +38,15 @@ fn put_left(script: &[u8], air: &mut [u8], came: &mut [u8]) -> usize {
     put_text(came, n, air)
 }
 
-// Some bytes of what a script leaves.
-pub(crate) fn shows(script: &[u8], from: usize, length: usize, came: &mut [u8]) -> usize {
+// A frame of the air, how many frames are on it, or what a post has taken: places in what a script leaves.
+pub(crate) fn shows(letter: u8, number: usize, script: &[u8], came: &mut [u8]) -> usize {
     let mut left = [0u8; 73229];
     run(script, 65536, false, &mut left);
-    put_text(came, 0, part(part(&left, from, 73229), 0, length))
+    match letter {
+        b'f' => put_text(came, 0, part(&left, 7692 + number % 2048 * 32, 7724 + number % 2048 * 32)),
+        b'n' => put_text(came, 0, part(&left, 7432, 7434)),
+        _ => put_text(came, 0, part(&left, 15 + number % 8 * 928, 23 + number % 8 * 928)),
+    }
 }
 
 // The other script where both leave the same yard and the same air, else nothing.

@@ -12,48 +12,44 @@ use Rattle.bench.proofs.posts.play_line.Reads as play-line-reads
 use Rattle.reader.proofs.read_line.Reads as read-line-reads
 
 abbrev Inv-loop : tie.InvT-loop
-Inv-loop script air₀ came₀ s₀ at₀ air came s at = (length air ≡ length air₀) × (length came ≡ length came₀)
+Inv-loop script air came₀ s₀ at₀ came s at = (length came ≡ length came₀)
 
 abbrev μ-loop : tie.MeasureT-loop
-μ-loop script air₀ came₀ s₀ at₀ air came s at = length script - at
+μ-loop script air came₀ s₀ at₀ came s at = length script - at
 
--- src/posts.rt:52:9
+-- src/posts.rt:67:9
 after-requires : tie.Need-after-requires Inv-loop μ-loop
 after-requires c κs = search needs
 
--- src/posts.rt:53:5
+-- src/posts.rt:68:5
 loop-holds : tie.Need-loop-holds Inv-loop μ-loop
 loop-holds c = search needs
 
--- src/posts.rt:54:13
+-- src/posts.rt:69:13
 read-line-requires : tie.Need-read-line-requires Inv-loop μ-loop
 read-line-requires c κs = search needs
 
--- src/posts.rt:55:9
+-- src/posts.rt:70:9
 play-line-requires : tie.Need-play-line-requires Inv-loop μ-loop
 play-line-requires c κs = search needs
 
--- src/posts.rt:56:9
+-- src/posts.rt:71:9
 after-requires-2 : tie.Need-after-requires-2 Inv-loop μ-loop
 after-requires-2 c κs = search needs
 
--- src/posts.rt:53:5
+-- src/posts.rt:68:5
 loop-less : tie.Need-loop-less Inv-loop μ-loop
 loop-less c = search needs
 
--- src/posts.rt:53:5
+-- src/posts.rt:68:5
 loop-again : tie.Need-loop-again Inv-loop μ-loop
 loop-again c = search needs
 
--- src/posts.rt:50:1
+-- src/posts.rt:65:1
 same-length : tie.Need-same-length Inv-loop μ-loop
 same-length c = search needs
 
--- src/posts.rt:50:1
-same-length-2 : tie.Need-same-length-2 Inv-loop μ-loop
-same-length-2 c = search needs
-
--- src/posts.rt:50:1
+-- src/posts.rt:65:1
 returns : tie.Need-returns Inv-loop μ-loop
 returns c = search needs
 
@@ -71,5 +67,4 @@ play-lines-spec =
     loop-less
     loop-again
     same-length
-    same-length-2
     returns)

@@ -13,8 +13,6 @@ use cases::digits;
 use cases::part;
 use libc::STDIN_FILENO;
 use libc::STDOUT_FILENO;
-use text::put_labelled;
-use text::put_text;
 
 // How many cases were run, and how many of them were the same.
 struct Counts {
@@ -28,17 +26,23 @@ pub(crate) struct Setting {
     pub second: usize,
 }
 
+// A part of what a script leaves.
+pub(crate) struct Part {
+    pub from: usize,
+    pub length: usize,
+}
+
 fn main() {
     let mut file = [0u8; 131072];
     let n = io::read_full(STDIN_FILENO, &mut file);
     let counts = run_file(&file[..n]);
     let different = std::num::wrapping_sub_u16(counts.cases, counts.same);
-    let mut line = [0u8; 64];
-    let to = put_labelled(&mut line, 0, b"", counts.cases);
-    let to = put_labelled(&mut line, to, b" cases, ", counts.same);
-    let to = put_labelled(&mut line, to, b" same, ", different);
-    let to = put_text(&mut line, to, b" different\n");
-    io::write_all(STDOUT_FILENO, part(&line, 0, to));
+    io::print_decimal(STDOUT_FILENO, counts.cases as u64);
+    io::write_all(STDOUT_FILENO, b" cases, ");
+    io::print_decimal(STDOUT_FILENO, counts.same as u64);
+    io::write_all(STDOUT_FILENO, b" same, ");
+    io::print_decimal(STDOUT_FILENO, different as u64);
+    io::write_all(STDOUT_FILENO, b" different\n");
 }
 
 // Runs each case on the input that stands above it.
@@ -117,11 +121,30 @@ fn run_verb<'a>(
         b'p' => yards::run(input, set.first, true, came),
         b'a' | b'l' => yards::answers(input, set.first, letter == b'a', came),
         b'e' => yards::equals(input, expected, set.first, came),
-        b'f' | b'n' | b't' => yards::shows(letter, number, input, came),
+        b'f' | b'n' | b't' => yards::shows(input, place(letter, number), came),
         b'j' => answers::put_line(came, 0, b"", frame::drift_frame_check(input) as u16),
         b'r' => frames::reads(input, came),
         b'w' => frames::writes(input, number, came),
-        _ => posts::play(letter, number, set, input, came),
+        b's' => posts::play(number, set, input, came),
+        _ => 0,
+    }
+}
+
+// Where a frame stands in what a script leaves, the number of frames, or what a post took last from each lane.
+fn place(letter: u8, number: usize) -> Part {
+    match letter {
+        b'f' => Part {
+            from: 7692 + number % 2048 * 32,
+            length: 32,
+        },
+        b'n' => Part {
+            from: 7432,
+            length: 2,
+        },
+        _ => Part {
+            from: 15 + number % 8 * 928,
+            length: 8,
+        },
     }
 }
 

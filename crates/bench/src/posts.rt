@@ -2,6 +2,7 @@
 use crate::Setting;
 use crate::answers::put_told;
 use crate::cases::after;
+use crate::cases::byte_at;
 use crate::cases::part;
 use frame::Stamp;
 use lines::Line;
@@ -18,25 +19,21 @@ struct Story {
     pub buffer: [u8; 32],
 }
 
-// What the post's steps answer, its line of the printout after them, or the last one's buffer.
-pub(crate) fn play(
-    letter: u8,
-    lane: usize,
-    set: Setting,
-    script: &[u8],
-    came: &mut [u8],
-) -> usize {
+// A post after a step, and the eight bytes that tell the answer.
+struct Stepped {
+    pub post: Post,
+    pub told: [u8; 8],
+}
+
+// What the post's steps answer, its line of the printout after them, and the last one's buffer.
+pub(crate) fn play(lane: usize, set: Setting, script: &[u8], came: &mut [u8]) -> usize {
     let mut left = [0u8; 73229];
     crate::yards::run(script, 65536, false, &mut left);
     let first = reader::read_line(script, 0);
     let s = begin(first, (lane % 8) as u8, set);
     let s = play_lines(s, script, part(&left, 7692, 73228), came);
-    match letter {
-        b's' => s.to,
-        b'h' => put_post(s.post, came),
-        b'b' => put_text(came, 0, &s.buffer),
-        _ => 0,
-    }
+    let n = put_post(s.post, came, s.to);
+    put_text(came, n, &s.buffer)
 }
 
 // The fresh post of a lane, or one whose clock is set.
@@ -66,40 +63,28 @@ fn play_lines<'a>(begun: Story, script: &'a [u8], air: &'a [u8], came: &mut [u8]
     let mut s = begun;
     let mut at = after(script, 0, b'\n');
     while at < script.len() {
-        let l = reader::read_line(script, at);
-        s = play_line(s, l, air, came);
+        s = play_line(s, script, at, air, came);
         at = after(script, at, b'\n');
     }
     s
 }
 
-// The post's story after a line.
-fn play_line(s: Story, l: Line, air: &[u8], came: &mut [u8]) -> Story {
-    match l {
-        Line::Order {
-            lane,
-            word,
-            next: _,
-        } => order(s, lane, word, came),
-        Line::Hear {
-            lane,
-            frame,
-            next: _,
-        } => hear(s, lane, air::stretch(air, 2048, frame as usize), came),
-        _ => s,
-    }
-}
-
-fn order(s: Story, lane: u8, word: u16, came: &mut [u8]) -> Story {
-    if lane != s.post.lane {
+// The story after the line at a place. The lane of a step stands after the line's first space; b'0' is a multiple of 8.
+fn play_line<'a>(
+    s: Story,
+    script: &'a [u8],
+    at: usize,
+    air: &'a [u8],
+    came: &mut [u8],
+) -> Story {
+    if byte_at(script, after(script, at, b' ')) % 8 != s.post.lane {
         return s;
     }
     let mut buffer = [0u8; 32];
-    let p = s.post;
-    let done = single::order(p, word, &mut buffer);
-    let answer = done.answer;
+    let done = step(s.post, reader::read_line(script, at), air, &mut buffer);
+    let told = done.told;
+    let to = put_told(&told, came, s.to);
     let post = done.post;
-    let to = put_told(&order_told(answer), came, s.to);
     Story {
         post: post,
         to: to,
@@ -107,7 +92,29 @@ fn order(s: Story, lane: u8, word: u16, came: &mut [u8]) -> Story {
     }
 }
 
-fn order_told(answer: OrderAnswer) -> [u8; 8] {
+fn step(p: Post, l: Line, air: &[u8], buffer: &mut [u8]) -> Stepped {
+    match l {
+        Line::Order {
+            lane: _,
+            word,
+            next: _,
+        } => order(p, word, buffer),
+        Line::Hear {
+            lane: _,
+            frame,
+            next: _,
+        } => hear(p, air::stretch(air, 2048, frame as usize), buffer),
+        _ => Stepped {
+            post: p,
+            told: [7, 0, 0, 0, 0, 0, 0, 0],
+        },
+    }
+}
+
+fn order(p: Post, word: u16, buffer: &mut [u8]) -> Stepped {
+    let done = single::order(p, word, buffer);
+    let answer = done.answer;
+    let post = done.post;
     match answer {
         OrderAnswer::Sent {
             serial,
@@ -116,26 +123,25 @@ fn order_told(answer: OrderAnswer) -> [u8; 8] {
         } => {
             let high = (stamp.0 / 256) as u8;
             let low = (stamp.0 % 256) as u8;
-            [1, 0, count, serial.0, high, low, 0, 0]
+            Stepped {
+                post: post,
+                told: [1, 0, count, serial.0, high, low, 0, 0],
+            }
         }
-        OrderAnswer::Refused(number) => [0, number, 0, 0, 0, 0, 0, 0],
+        OrderAnswer::Refused(number) => Stepped {
+            post: post,
+            told: [0, number, 0, 0, 0, 0, 0, 0],
+        },
     }
 }
 
-fn hear(s: Story, lane: u8, frame: &[u8], came: &mut [u8]) -> Story {
-    if lane != s.post.lane {
-        return s;
-    }
-    let mut buffer = [0u8; 32];
-    let p = s.post;
-    let done = single::hear(p, frame, &mut buffer);
+fn hear(p: Post, frame: &[u8], buffer: &mut [u8]) -> Stepped {
+    let done = single::hear(p, frame, buffer);
     let answer = done.answer;
     let post = done.post;
-    let to = put_told(&hear_told(answer), came, s.to);
-    Story {
+    Stepped {
         post: post,
-        to: to,
-        buffer: buffer,
+        told: hear_told(answer),
     }
 }
 
@@ -149,7 +155,7 @@ fn hear_told(answer: HearAnswer) -> [u8; 8] {
     }
 }
 
-fn put_post(p: Post, came: &mut [u8]) -> usize {
+fn put_post(p: Post, came: &mut [u8], to: usize) -> usize {
     let clock = p.clock;
     let serial = p.serial;
     let head = Head {
@@ -164,5 +170,5 @@ fn put_post(p: Post, came: &mut [u8]) -> usize {
     let stamps = p.stamps;
     let words = p.words;
     let log = p.log;
-    printout::put_post(came, 0, head, &stamps, &words, &log)
+    printout::put_post(came, to, head, &stamps, &words, &log)
 }

@@ -1,4 +1,5 @@
 // Scripts run in a yard, by the two functions that a host calls.
+use crate::Part;
 use crate::answers::put_told;
 use crate::cases::after;
 use crate::cases::byte_at;
@@ -38,15 +39,11 @@ fn put_left(script: &[u8], air: &mut [u8], came: &mut [u8]) -> usize {
     put_text(came, n, air)
 }
 
-// A frame of the air, how many frames are on it, or what a post has taken: places in what a script leaves.
-pub(crate) fn shows(letter: u8, number: usize, script: &[u8], came: &mut [u8]) -> usize {
+// A part of what a script leaves.
+pub(crate) fn shows(script: &[u8], p: Part, came: &mut [u8]) -> usize {
     let mut left = [0u8; 73229];
     run(script, 65536, false, &mut left);
-    match letter {
-        b'f' => put_text(came, 0, part(&left, 7692 + number % 2048 * 32, 7724 + number % 2048 * 32)),
-        b'n' => put_text(came, 0, part(&left, 7432, 7434)),
-        _ => put_text(came, 0, part(&left, 15 + number % 8 * 928, 23 + number % 8 * 928)),
-    }
+    put_text(came, 0, part(part(&left, p.from, 73229), 0, p.length))
 }
 
 // The other script where both leave the same yard and the same air, else nothing.

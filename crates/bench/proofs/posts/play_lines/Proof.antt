@@ -9,7 +9,6 @@ use Rattle.bench.proofs.posts.play_lines.Reads as reads
 use Rattle.bench.proofs.posts.play_lines.Lts as lts
 use Rattle.bench.proofs.cases.after.Reads as after-reads
 use Rattle.bench.proofs.posts.play_line.Reads as play-line-reads
-use Rattle.reader.proofs.read_line.Reads as read-line-reads
 
 abbrev Inv-loop : tie.InvT-loop
 Inv-loop script air came₀ s₀ at₀ came s at = (length came ≡ length came₀)
@@ -17,39 +16,35 @@ Inv-loop script air came₀ s₀ at₀ came s at = (length came ≡ length came�
 abbrev μ-loop : tie.MeasureT-loop
 μ-loop script air came₀ s₀ at₀ came s at = length script - at
 
--- src/posts.rt:67:9
+-- src/posts.rt:64:9
 after-requires : tie.Need-after-requires Inv-loop μ-loop
 after-requires c κs = search needs
 
--- src/posts.rt:68:5
+-- src/posts.rt:65:5
 loop-holds : tie.Need-loop-holds Inv-loop μ-loop
 loop-holds c = search needs
 
--- src/posts.rt:69:13
-read-line-requires : tie.Need-read-line-requires Inv-loop μ-loop
-read-line-requires c κs = search needs
-
--- src/posts.rt:70:9
+-- src/posts.rt:66:9
 play-line-requires : tie.Need-play-line-requires Inv-loop μ-loop
 play-line-requires c κs = search needs
 
--- src/posts.rt:71:9
+-- src/posts.rt:67:9
 after-requires-2 : tie.Need-after-requires-2 Inv-loop μ-loop
 after-requires-2 c κs = search needs
 
--- src/posts.rt:68:5
+-- src/posts.rt:65:5
 loop-less : tie.Need-loop-less Inv-loop μ-loop
 loop-less c = search needs
 
--- src/posts.rt:68:5
+-- src/posts.rt:65:5
 loop-again : tie.Need-loop-again Inv-loop μ-loop
 loop-again c = search needs
 
--- src/posts.rt:65:1
+-- src/posts.rt:62:1
 same-length : tie.Need-same-length Inv-loop μ-loop
 same-length c = search needs
 
--- src/posts.rt:65:1
+-- src/posts.rt:62:1
 returns : tie.Need-returns Inv-loop μ-loop
 returns c = search needs
 
@@ -61,7 +56,6 @@ play-lines-spec =
     μ-loop
     after-requires
     loop-holds
-    read-line-requires
     play-line-requires
     after-requires-2
     loop-less

@@ -26,5 +26,10 @@ pub(crate) fn put_told(told: &[u8], came: &mut [u8], to: usize) -> usize {
     let from = (code % 9) as usize * 8;
     let steps = byte_at(told, 6) as u16 * 256 + byte_at(told, 7) as u16;
     let number = std::num::wrapping_add_u16(byte_at(told, 1) as u16 + count, steps);
-    put_line(came, to, part(words, from, after(words, from, b' ')), number)
+    put_line(
+        came,
+        to,
+        part(words, from, after(words, from, b' ')),
+        number,
+    )
 }

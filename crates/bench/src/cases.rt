@@ -21,11 +21,7 @@ pub(crate) fn byte_at(s: &[u8], at: usize) -> u8 {
 // The part from a place to before another; nothing where these are no places of s.
 pub(crate) fn part(s: &[u8], from: usize, to: usize) -> &[u8] {
     if from <= to {
-        if to <= s.len() {
-            &s[from..to]
-        } else {
-            &s[..0]
-        }
+        if to <= s.len() { &s[from..to] } else { &s[..0] }
     } else {
         &s[..0]
     }

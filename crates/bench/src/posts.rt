@@ -44,8 +44,7 @@ fn begin(l: Line, lane: u8, set: Setting) -> Story {
         sources,
         dests,
         next: _,
-    } = l
-    {
+    } = l {
         p = Post::new(lane, posts, sources, dests);
     }
     if set.first == lane as usize {
@@ -70,13 +69,7 @@ fn play_lines<'a>(begun: Story, script: &'a [u8], air: &'a [u8], came: &mut [u8]
 }
 
 // The story after the line at a place. The lane of a step stands after the line's first space; b'0' is a multiple of 8.
-fn play_line<'a>(
-    s: Story,
-    script: &'a [u8],
-    at: usize,
-    air: &'a [u8],
-    came: &mut [u8],
-) -> Story {
+fn play_line<'a>(s: Story, script: &'a [u8], at: usize, air: &'a [u8], came: &mut [u8]) -> Story {
     if byte_at(script, after(script, at, b' ')) % 8 != s.post.lane {
         return s;
     }

@@ -156,7 +156,7 @@ fn tell<'a>(name: &'a [u8], expected: &'a [u8], came: &'a [u8]) -> u16 {
     }
     io::write_all(STDOUT_FILENO, b"DIFFERENT, expected\n");
     io::write_all(STDOUT_FILENO, expected);
-    io::write_all(STDOUT_FILENO, b"came\n");
+    io::write_all(STDOUT_FILENO, b"\ncame\n");
     io::write_all(STDOUT_FILENO, came);
     0
 }

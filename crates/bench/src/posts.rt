@@ -1,154 +1,167 @@
-// The bench's stories, played by posts run singly that hand each other their broadcasts.
-// The yard is that of the printed script: `(yard (0 both) (1 source) (2 dest))`.
-use crate::printing::print_frames;
-use crate::printing::print_heard;
-use crate::printing::print_log;
-use crate::printing::print_number;
+// One post of a script run singly: its own steps, with the frames that the whole script leaves on the air.
+use crate::Setting;
+use crate::answers::put_told;
+use crate::cases::after;
+use crate::cases::byte_at;
+use crate::cases::part;
 use frame::Stamp;
+use lines::Line;
+use post::Head;
 use post::Post;
+use steps::HearAnswer;
 use steps::OrderAnswer;
+use text::put_text;
 
-// P1 and P2, as far as posts run singly tell them.
-pub(crate) fn printed_script() {
-    let mut frame0 = [0u8; 32];
-    let mut frame1 = [0u8; 32];
-    let mut frame2 = [0u8; 32];
-    let mut frame4 = [0u8; 32];
-    let p0 = ordered(fresh(0), 417, &mut frame0);
-    let p1 = heard(
-        b"P1 post 1 hears frame 0",
-        b"taken 0",
-        fresh(1),
-        &frame0,
-        &mut frame1,
-    );
-    let p1 = ordered(p1, 90, &mut frame2);
-    let p2 = listened(b"P1 post 2 hears frame 1", b"taken 1", fresh(2), &frame1);
-    let p0 = heard(
-        b"P1 post 0 hears frame 2",
-        b"taken 2",
-        p0,
-        &frame2,
-        &mut frame4,
-    );
-    print_number(b"P1 clock of post 0", 4, p0.clock.0);
-    print_number(b"P1 clock of post 1", 3, p1.clock.0);
-    print_number(b"P1 clock of post 2", 0, p2.clock.0);
-    print_log(b"P1 log of post 0", b" (1 0 417) (3 1 90)", p0);
-    print_log(b"P1 log of post 1", b"", p1);
-    print_log(b"P1 log of post 2", b" (1 0 417)", p2);
-    print_frames(b"P2 frame 4 broadcast", &crate::frames::FRAME_4, &frame4);
+// The post after some of its steps, the place after their answers, and the buffer lent for the last of them.
+struct Story {
+    pub post: Post,
+    pub to: usize,
+    pub buffer: [u8; 32],
 }
 
-// P3, its hearings: frame 2 before frame 0.
-pub(crate) fn heard_out_of_order() {
-    let mut frame0 = [0u8; 32];
-    let mut frame2 = [0u8; 32];
-    ordered(fresh(0), 417, &mut frame0);
-    let p1 = listened(b"P3 post 1 hears frame 0", b"taken 0", fresh(1), &frame0);
-    ordered(p1, 90, &mut frame2);
-    hear_2_before_0(&frame2, &frame0);
+// A post after a step, and the eight bytes that tell the answer.
+struct Stepped {
+    pub post: Post,
+    pub told: [u8; 8],
 }
 
-fn hear_2_before_0<'a>(frame2: &'a [u8], frame0: &'a [u8]) {
-    let p2 = listened(b"P3 post 2 hears frame 2", b"taken 0", fresh(2), frame2);
-    print_log(b"P3 log of post 2", b"", p2);
-    let p2 = listened(b"P3 post 2 hears frame 0", b"taken 1", p2, frame0);
-    print_log(b"P3 log of post 2 then", b" (1 0 417)", p2);
+// What the post's steps answer, its line of the printout after them, and the last one's buffer.
+pub(crate) fn play(lane: usize, set: Setting, script: &[u8], came: &mut [u8]) -> usize {
+    let mut left = [0u8; 73229];
+    crate::yards::run(script, 65536, false, &mut left);
+    let first = reader::read_line(script, 0);
+    let s = begin(first, (lane % 8) as u8, set);
+    let s = play_lines(s, script, part(&left, 7692, 73228), came);
+    let n = put_post(s.post, came, s.to);
+    put_text(came, n, &s.buffer)
 }
 
-// P7: a frame heard twice. P8: serial 2 heard before serial 1.
-pub(crate) fn heard_again_and_early() {
-    let mut first = [0u8; 32];
-    let mut second = [0u8; 32];
-    let p0 = ordered(fresh(0), 417, &mut first);
-    ordered(p0, 418, &mut second);
-    hear_twice(&first);
-    hear_2_before_1(&second, &first);
-}
-
-fn hear_twice(first: &[u8]) {
-    let p1 = listened(b"P7 post 1 hears frame 0", b"taken 0", fresh(1), first);
-    print_number(b"P7 clock of post 1", 2, p1.clock.0);
-    let p1 = listened(b"P7 post 1 hears frame 0 again", b"again 0", p1, first);
-    print_number(b"P7 clock of post 1 then", 2, p1.clock.0);
-}
-
-fn hear_2_before_1<'a>(second: &'a [u8], first: &'a [u8]) {
-    let p1 = listened(b"P8 post 1 hears serial 2", b"early 0", fresh(1), second);
-    listened(b"P8 post 1 hears serial 1 then", b"taken 0", p1, first);
-}
-
-// P5, its order; sixteen orders and a seventeenth; a clock that has one reading left.
-pub(crate) fn limits() {
-    print_log(b"P5 log", b" (1 0 5)", sent(Post::new(0, 1, 1, 1), 5));
-    let p = fifteen_sent();
-    print_number(b"sixteenth order", 0, order_number(p));
-    print_number(b"seventeenth order", 23, order_number(sent(p, 15)));
-    print_number(b"order at clock 65534", 0, order_number(clock_at(65534)));
-    print_number(b"order at clock 65535", 24, order_number(clock_at(65535)));
-}
-
-fn fifteen_sent() -> Post {
-    let mut p = fresh(0);
-    for word in 0..15u16 {
-        p = sent(p, word);
+// The fresh post of a lane, or one whose clock is set.
+fn begin(l: Line, lane: u8, set: Setting) -> Story {
+    let mut p = Post::new(lane, 0, 0, 0);
+    if let Line::Yard {
+        posts,
+        sources,
+        dests,
+        next: _,
+    } = l {
+        p = Post::new(lane, posts, sources, dests);
     }
-    p
+    if set.first == lane as usize {
+        let clock = Stamp((set.second % 65536) as u16);
+        p.clock = clock;
+    }
+    Story {
+        post: p,
+        to: 0,
+        buffer: [0u8; 32],
+    }
 }
 
-fn fresh(lane: u8) -> Post {
-    let made = single::fresh(lane, 7, 3, 5);
-    let post = made.post;
-    post
+fn play_lines<'a>(begun: Story, script: &'a [u8], air: &'a [u8], came: &mut [u8]) -> Story {
+    let mut s = begun;
+    let mut at = after(script, 0, b'\n');
+    while at < script.len() {
+        s = play_line(s, script, at, air, came);
+        at = after(script, at, b'\n');
+    }
+    s
 }
 
-fn clock_at(reading: u16) -> Post {
-    let clock = Stamp(reading);
-    let mut p = fresh(0);
-    p.clock = clock;
-    p
-}
-
-// The post after an order, whose broadcast goes into the buffer.
-fn ordered(p: Post, word: u16, buffer: &mut [u8]) -> Post {
-    let done = single::order(p, word, buffer);
+// The story after the line at a place. The lane of a step stands after the line's first space; b'0' is a multiple of 8.
+fn play_line<'a>(s: Story, script: &'a [u8], at: usize, air: &'a [u8], came: &mut [u8]) -> Story {
+    if byte_at(script, after(script, at, b' ')) % 8 != s.post.lane {
+        return s;
+    }
+    let mut buffer = [0u8; 32];
+    let done = step(s.post, reader::read_line(script, at), air, &mut buffer);
+    let told = done.told;
+    let to = put_told(&told, came, s.to);
     let post = done.post;
-    post
+    Story {
+        post: post,
+        to: to,
+        buffer: buffer,
+    }
 }
 
-// The post after a hearing, whose broadcast goes into the buffer.
-fn heard<'a>(
-    name: &'a [u8],
-    expected: &'a [u8],
-    p: Post,
-    frame: &'a [u8],
-    buffer: &mut [u8],
-) -> Post {
+fn step(p: Post, l: Line, air: &[u8], buffer: &mut [u8]) -> Stepped {
+    match l {
+        Line::Order {
+            lane: _,
+            word,
+            next: _,
+        } => order(p, word, buffer),
+        Line::Hear {
+            lane: _,
+            frame,
+            next: _,
+        } => hear(p, air::stretch(air, 2048, frame as usize), buffer),
+        _ => Stepped {
+            post: p,
+            told: [7, 0, 0, 0, 0, 0, 0, 0],
+        },
+    }
+}
+
+fn order(p: Post, word: u16, buffer: &mut [u8]) -> Stepped {
+    let done = single::order(p, word, buffer);
+    let answer = done.answer;
+    let post = done.post;
+    match answer {
+        OrderAnswer::Sent {
+            serial,
+            stamp,
+            count,
+        } => {
+            let high = (stamp.0 / 256) as u8;
+            let low = (stamp.0 % 256) as u8;
+            Stepped {
+                post: post,
+                told: [1, 0, count, serial.0, high, low, 0, 0],
+            }
+        }
+        OrderAnswer::Refused(number) => Stepped {
+            post: post,
+            told: [0, number, 0, 0, 0, 0, 0, 0],
+        },
+    }
+}
+
+fn hear(p: Post, frame: &[u8], buffer: &mut [u8]) -> Stepped {
     let done = single::hear(p, frame, buffer);
     let answer = done.answer;
-    print_heard(name, expected, answer);
     let post = done.post;
-    post
-}
-
-// The same with nobody to hear the broadcast.
-fn sent(p: Post, word: u16) -> Post {
-    let mut buffer = [0u8; 32];
-    ordered(p, word, &mut buffer)
-}
-
-fn listened<'a>(name: &'a [u8], expected: &'a [u8], p: Post, frame: &'a [u8]) -> Post {
-    let mut buffer = [0u8; 32];
-    heard(name, expected, p, frame, &mut buffer)
-}
-
-fn order_number(p: Post) -> u16 {
-    let mut buffer = [0u8; 32];
-    let done = single::order(p, 0, &mut buffer);
-    let answer = done.answer;
-    match answer {
-        OrderAnswer::Sent { .. } => 0,
-        OrderAnswer::Refused(number) => number as u16,
+    Stepped {
+        post: post,
+        told: hear_told(answer),
     }
+}
+
+fn hear_told(answer: HearAnswer) -> [u8; 8] {
+    match answer {
+        HearAnswer::Taken(count) => [2, 0, count, 0, 0, 0, 0, 0],
+        HearAnswer::Again(count) => [3, 0, count, 0, 0, 0, 0, 0],
+        HearAnswer::Early(count) => [4, 0, count, 0, 0, 0, 0, 0],
+        HearAnswer::Beacon(count) => [5, 0, count, 0, 0, 0, 0, 0],
+        HearAnswer::Refused(number) => [0, number, 0, 0, 0, 0, 0, 0],
+    }
+}
+
+fn put_post(p: Post, came: &mut [u8], to: usize) -> usize {
+    let clock = p.clock;
+    let serial = p.serial;
+    let head = Head {
+        lane: p.lane,
+        posts: p.posts,
+        sources: p.sources,
+        dests: p.dests,
+        clock: clock,
+        serial: serial,
+        logged: p.logged,
+    };
+    let stamps = p.stamps;
+    let words = p.words;
+    let log = p.log;
+    printout::put_post(came, to, head, &stamps, &words, &log)
 }

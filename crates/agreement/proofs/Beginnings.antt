@@ -4,10 +4,10 @@ use mathlib.Core.List.{List, [], _∷_, _++_}
 use mathlib.Core.Logic.{_⊎_, inl, inr}
 use mathlib.Core.Bool.{Bool, true, false, cond}
 use Prim.Native.Nat.{suc}
-use lib.Dec.{ltb}
 use lib.ListN.{length}
+use Rattle.deliver.specs.Delivery.{insertBy, sortBy}
 use Rattle.roll.specs.Runs.{Order}
-use Rattle.roll.specs.Logs.{rank, insertOrder, inOrder}
+use Rattle.roll.specs.Logs.{ranksLower, inOrder}
 use Rattle.laws.proofs.ListLaws.{Begins}
 
 -- a list without its first order, and its first order, or another where there is none
@@ -37,16 +37,16 @@ pub begin-each-other : (s t l : List Order) → Begins s l → Begins t l → Be
 begin-each-other s t l a b = one-begins s t (a .0) (b .0) (sym (a .1) ∙ b .1)
 
 -- sorting keeps how many there are
-length-insert : (x : Order) (l : List Order) → length (insertOrder x l) ≡ suc (length l)
-unfolding insertOrder
+length-insert : (x : Order) (l : List Order) → length (insertBy ranksLower x l) ≡ suc (length l)
+unfolding insertBy
 length-insert x [] = refl
-length-insert x (y ∷ l) = go (ltb (rank x) (rank y)) (length-insert x l)
+length-insert x (y ∷ l) = go (ranksLower x y) (length-insert x l)
   where
-    go : (b : Bool) → length (insertOrder x l) ≡ suc (length l) → length (cond b (x ∷ y ∷ l) (y ∷ insertOrder x l)) ≡ suc (suc (length l))
+    go : (b : Bool) → length (insertBy ranksLower x l) ≡ suc (length l) → length (cond b (x ∷ y ∷ l) (y ∷ insertBy ranksLower x l)) ≡ suc (suc (length l))
     go true ih = refl
     go false ih = ap suc ih
 
 pub length-in-order : (l : List Order) → length (inOrder l) ≡ length l
-unfolding inOrder
+unfolding inOrder sortBy
 length-in-order [] = refl
-length-in-order (x ∷ l) = length-insert x (inOrder l) ∙ ap suc (length-in-order l)
+length-in-order (x ∷ l) = length-insert x (sortBy ranksLower l) ∙ ap suc (length-in-order l)

@@ -10,7 +10,7 @@ use lib.Dec.{eqb}
 use lib.ListN.{length}
 use borrow.Author.Tests.{ltb-true}
 use Rattle.frame.specs.declared.Frame.{Frame}
-use Rattle.frame.specs.Types.{Fits}
+use Rattle.frame.specs.Types.{Typed}
 use Rattle.frame.specs.Refusals.{frameRefusal}
 use Rattle.cells.specs.Tables.{orderPlace, withStamp}
 use Rattle.post.specs.declared.Post.{Post}
@@ -91,7 +91,7 @@ view-ordered p word s v h =
     })
 
 -- the entries of a frame that is not refused
-pub view-raised : (p : Post) (f : Frame) → Shaped p → frameRefusal f ≡ 0 → Fits f
+pub view-raised : (p : Post) (f : Frame) → Shaped p → frameRefusal f ≡ 0 → Typed f
     → postView (raisedPost p f) ≡ model.raised (postView p) (frameView f)
 unfolding raisedPost
 view-raised p f s z c = λ t. record {
@@ -105,7 +105,7 @@ view-raised p f s z c = λ t. record {
 }
 
 -- an order that was heard
-pub view-taken : (p : Post) (f : Frame) → Shaped p → Valid p → frameRefusal f ≡ 0 → Fits f → isNext f (lastOf p (f .lane)) ≡ true
+pub view-taken : (p : Post) (f : Frame) → Shaped p → Valid p → frameRefusal f ≡ 0 → Typed f → isNext f (lastOf p (f .lane)) ≡ true
     → (R : model.Roles) → R .source (p .lane) ≡ isSource p (p .lane)
     → postView (taken p f) ≡ model.taken R (p .lane) (frameView f .carried) (model.raised (postView p) (frameView f))
 unfolding taken raisedPost ticked kept

@@ -10,7 +10,7 @@ use native.Mathlib.Omega.{arith}
 use lib.ListN.{length, getD, take, drop, length-append, length-take, length-drop, List·getD-append}
 use lib.Seq.{getD-append-add, getD-take, getD-drop, take-at, drop-at, ext-getD}
 use Rattle.frame.specs.Layout.{bytesOf}
-use Rattle.frame.specs.Types.{Fits}
+use Rattle.frame.specs.Types.{Typed}
 use Rattle.frame.specs.ReadWrite.{readOf}
 use Rattle.frame.specs.declared.Frame.{Frame}
 use Rattle.frame.proofs.RoundTrip.{bytes-length}
@@ -68,7 +68,7 @@ module _ (air : List ℕ) (k : ℕ) (bytes : List ℕ) (whole : length air ≡ 6
       long = stretch-length (placed air k bytes) j placed-length l
 
 -- on the air after a write that was not refused, frame k reads as the frame that was written
-pub reads-as-written : (air : List ℕ) (frames k : ℕ) (f : Frame) → Fits f → placeRefusal air k f ≡ 0 → k < frames
+pub reads-as-written : (air : List ℕ) (frames k : ℕ) (f : Frame) → Typed f → placeRefusal air k f ≡ 0 → k < frames
     → readOf (stretchOf (airWith air k f) frames k) ≡ record { refusal = 0; frame = f }
 reads-as-written air frames k f fits z l =
     let p = has-place air k f z in

@@ -5,12 +5,12 @@ use mathlib.Core.Bool.{Bool, true, false, cond}
 use mathlib.Core.List.{List, [], _∷_, _++_}
 use mathlib.Core.Logic.{inl, inr}
 use native.Mathlib.Omega.{arith}
-use lib.Dec.{ltb}
 use lib.ListN.{length, length-append}
+use Rattle.deliver.specs.Delivery.{insertBy, sortBy}
 use Rattle.text.specs.Decimal.{decimal}
 use Rattle.laws.specs.Lists.{Mem, Begins}
 use Rattle.roll.specs.Runs.{Order}
-use Rattle.roll.specs.Logs.{rank, insertOrder, inOrder}
+use Rattle.roll.specs.Logs.{ranksLower, inOrder}
 use Rattle.meaning.specs.Texts.{itemText, itemsText}
 use Rattle.fits.proofs.Decimals.{at-most-5}
 use Rattle.fits.proofs.TextLengths.{item-length}
@@ -41,21 +41,21 @@ items-append [] m = omega arith
 items-append (o ∷ l) m = simp length-append (omega (arith, items-append l m))
 
 -- with an order put in its place
-items-insert : (x : Order) (l : List Order) → length (itemsText (insertOrder x l)) ≡ length (itemText x) + length (itemsText l)
-unfolding insertOrder itemsText
+items-insert : (x : Order) (l : List Order) → length (itemsText (insertBy ranksLower x l)) ≡ length (itemText x) + length (itemsText l)
+unfolding insertBy itemsText
 items-insert x [] = rw length-append
-items-insert x (y ∷ l) = go (ltb (rank x) (rank y)) (items-insert x l)
+items-insert x (y ∷ l) = go (ranksLower x y) (items-insert x l)
   where
-    go : (b : Bool) → length (itemsText (insertOrder x l)) ≡ length (itemText x) + length (itemsText l)
-        → length (itemsText (cond b (x ∷ y ∷ l) (y ∷ insertOrder x l))) ≡ length (itemText x) + length (itemText y ++ itemsText l)
+    go : (b : Bool) → length (itemsText (insertBy ranksLower x l)) ≡ length (itemText x) + length (itemsText l)
+        → length (itemsText (cond b (x ∷ y ∷ l) (y ∷ insertBy ranksLower x l))) ≡ length (itemText x) + length (itemText y ++ itemsText l)
     go true ih = simp length-append (omega arith)
     go false ih = simp length-append (omega (arith, ih))
 
 -- sorting keeps how many bytes there are
 items-in-order : (l : List Order) → length (itemsText (inOrder l)) ≡ length (itemsText l)
-unfolding inOrder itemsText
+unfolding inOrder sortBy itemsText
 items-in-order [] = refl
-items-in-order (x ∷ l) = rw length-append (items-insert x (inOrder l) ∙ ap (λ (n : ℕ). length (itemText x) + n) (items-in-order l))
+items-in-order (x ∷ l) = rw length-append (items-insert x (sortBy ranksLower l) ∙ ap (λ (n : ℕ). length (itemText x) + n) (items-in-order l))
 
 -- orders with stamps of four digits and lanes below 8
 abbrev pub Short : List Order → Type 0

@@ -10,7 +10,7 @@ use lib.Dec.{ltb, lit<}
 use lib.ListN.{length, getD}
 use Rattle.frame.specs.Lanes.{lanes}
 use Rattle.frame.specs.Layout.{noEntry, frameOf}
-use Rattle.frame.specs.Types.{Fits, AreBytes}
+use Rattle.frame.specs.Types.{Typed, AreBytes}
 use Rattle.frame.specs.Refusals.{frameRefusal, readRefusal}
 use Rattle.frame.specs.ReadWrite.{writeRefusal, readOf, written}
 use Rattle.frame.specs.Fields.{ByteFields, fieldsOf, fieldAt, entryFrom, entriesFrom, frameFrom, badCount, fieldsReadRefusal, fieldsRead, fieldsWriteRefusal, fieldsWritten}
@@ -94,7 +94,7 @@ mapped-stamps entry [] h lane = omega arith
 mapped-stamps entry (i ∷ l) h zero = h i
 mapped-stamps entry (i ∷ l) h (suc lane) = mapped-stamps entry l h lane
 
-fields-fit : (fields : List ℕ) → AreNumbers fields → Fits (frameFrom fields)
+fields-fit : (fields : List ℕ) → AreNumbers fields → Typed (frameFrom fields)
 unfolding frameFrom
 fields-fit fields h = record {
   stamp = h 4;

@@ -5,7 +5,7 @@ use Prim.Native.Nat.{ℕ, zero, suc, _+_, _*_, _/_, _%_, _<_}
 use native.Mathlib.Omega.{arith}
 use lib.ListN.{length, getD}
 use Rattle.frame.specs.Layout.{noEntry, entriesOf, frameOf, bytesOf}
-use Rattle.frame.specs.Types.{Fits, AreBytes}
+use Rattle.frame.specs.Types.{Typed, AreBytes}
 use Rattle.frame.specs.declared.Frame.{Frame}
 
 -- a list is the list of its elements
@@ -30,7 +30,7 @@ pair-high a b h l = omega arith
 pair-low : (a b : ℕ) → a < 256 → b < 256 → (256 * a + b) % 256 ≡ b
 pair-low a b h l = omega arith
 
-entries-join : (f : Frame) → Fits f → entriesOf (bytesOf f) ≡ f .entries
+entries-join : (f : Frame) → Typed f → entriesOf (bytesOf f) ≡ f .entries
 unfolding bytesOf tabulate
 entries-join f h =
     simp (pair-joins, h .stamps) (tabulated noEntry (f .entries) 8 (h .count))
@@ -39,7 +39,7 @@ pub bytes-length : (f : Frame) → length (bytesOf f) ≡ 32
 unfolding bytesOf
 bytes-length f = refl
 
-pub frame-bytes : (f : Frame) → Fits f → frameOf (bytesOf f) ≡ f
+pub frame-bytes : (f : Frame) → Typed f → frameOf (bytesOf f) ≡ f
 unfolding frameOf bytesOf
 frame-bytes f h = rw (pair-joins (f .stamp .0) (h .stamp), pair-joins (f .word) (h .word), entries-join f h)
 

@@ -7,7 +7,7 @@ use Rattle.frame.specs.Layout.{byteAt, entryOf}
 use Rattle.frame.specs.declared.Frame.{Frame}
 
 -- what every value of the type `Frame` has: eight entries, and stamps and word of 16 bits
-pub record Fits (f : Frame) : Type 0 where
+pub record Typed (f : Frame) : Type 0 where
   pub stamp : f .stamp .0 < 65536
   pub word : f .word < 65536
   pub count : length (f .entries) ≡ 8

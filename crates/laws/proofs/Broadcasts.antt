@@ -4,7 +4,7 @@ use mathlib.Core.Bool.{true}
 use Prim.Native.Nat.{ℕ, _+_, _<_}
 use native.Mathlib.Omega.{arith}
 use Rattle.frame.specs.declared.Frame.{Frame}
-use Rattle.frame.specs.Types.{Fits}
+use Rattle.frame.specs.Types.{Typed}
 use Rattle.frame.specs.Refusals.{frameRefusal}
 use Rattle.post.specs.declared.Post.{Post}
 use Rattle.post.specs.Record.{lastOf}
@@ -45,7 +45,7 @@ unfolding hearStep hearTaken
 hear-frame p f z n = rw (z, n)
 
 -- and can be sent
-pub hear-sendable : (p : Post) (f : Frame) → frameRefusal f ≡ 0 → Fits f → hearRefusal p f ≡ 0 → isNext f (lastOf p (f .lane)) ≡ true
+pub hear-sendable : (p : Post) (f : Frame) → frameRefusal f ≡ 0 → Typed f → hearRefusal p f ≡ 0 → isNext f (lastOf p (f .lane)) ≡ true
     → Shaped p → Valid p
     → Sendable (hearStep p f .frame)
 hear-sendable p f a t z n s v =

@@ -6,8 +6,8 @@ use Prim.Native.Nat.{ℕ, zero, suc, _+_, _≤_, _<_}
 use native.Mathlib.Omega.{arith}
 use lib.ListN.{length, getD, set, length-append}
 use lib.Seq.{sets, getD-set-other}
-pub use Rattle.laws.specs.Lists.{Mem, Begins}
-pub use Rattle.laws.specs.LogAfter.{NoRepeat, RisingBy}
+pub use Rattle.laws.specs.Lists.{Mem, Begins, RisingBy}
+pub use Rattle.laws.specs.LogAfter.{NoRepeat}
 
 module _ {A : Type 0} where
   pub mem-left : (x : A) (s t : List A) → Mem x s → Mem x (s ++ t)

@@ -9,7 +9,7 @@ use lib.Dec.{ltb, leb, eqb}
 use lib.ListN.{length, getD, List·getD-eq-default}
 use borrow.Author.Tests.{ltb-true, leb-true, leb-false, le-ltb, ne-eqb, lt-ltb, eqb-true}
 use Rattle.frame.specs.Layout.{noEntry, entryOf}
-use Rattle.frame.specs.Types.{Fits}
+use Rattle.frame.specs.Types.{Typed}
 use Rattle.frame.specs.Refusals.{badEntry, badEntries, frameRefusal}
 use Rattle.frame.specs.declared.Entry.{Entry}
 use Rattle.frame.specs.declared.Frame.{Frame}
@@ -205,7 +205,7 @@ order-accepted p lane serial stamp word h l a b c =
     )
 
 -- a beacon is a frame of its type
-pub beacon-fits : (p : Post) → ((j : ℕ) → getD (p .table) j 0 < 65536) → Fits (beaconFrame p)
+pub beacon-fits : (p : Post) → ((j : ℕ) → getD (p .table) j 0 < 65536) → Typed (beaconFrame p)
 beacon-fits p h = record {
   stamp = omega arith;
   word = omega arith;
@@ -215,5 +215,5 @@ beacon-fits p h = record {
 
 -- a broadcast order is a frame of its type
 pub order-fits : (p : Post) (lane serial stamp word : ℕ) → ((j : ℕ) → getD (p .table) j 0 < 65536) → stamp < 65536 → word < 65536
-    → Fits (orderFrame p lane serial stamp word)
+    → Typed (orderFrame p lane serial stamp word)
 order-fits p lane serial stamp word h s w = record { stamp = s; word = w; count = newest-count (p .table); stamps = newest-stamps (p .table) h }

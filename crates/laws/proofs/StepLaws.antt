@@ -5,7 +5,7 @@ use mathlib.Core.Logic.{_⊎_, inl, inr, _≢_}
 use mathlib.Core.Bool.{false}
 use Prim.Native.Nat.{ℕ, _<_}
 use Rattle.frame.specs.declared.Frame.{Frame}
-use Rattle.frame.specs.Types.{Fits}
+use Rattle.frame.specs.Types.{Typed}
 use Rattle.frame.specs.Refusals.{frameRefusal}
 use Rattle.post.specs.declared.Post.{Post}
 use Rattle.post.specs.Taking.{ownTaken}
@@ -39,7 +39,7 @@ order-valid p word b s v = go (same-or-not (orderRefusal p) 0)
     go (inr n) = rw (order-refused p word n) v
 
 -- a hearing leaves a record of its type
-pub hear-shaped : (p : Post) (f : Frame) → frameRefusal f ≡ 0 → Fits f → Shaped p → Valid p → Shaped (hearStep p f .post)
+pub hear-shaped : (p : Post) (f : Frame) → frameRefusal f ≡ 0 → Typed f → Shaped p → Valid p → Shaped (hearStep p f .post)
 hear-shaped p f a t s v = go (same-or-not (hearRefusal p f) 0)
   where
     go : (hearRefusal p f ≡ 0) ⊎ (hearRefusal p f ≢ 0) → Shaped (hearStep p f .post)
@@ -47,7 +47,7 @@ hear-shaped p f a t s v = go (same-or-not (hearRefusal p f) 0)
     go (inr n) = rw (hear-refused p f n) s
 
 -- a hearing leaves a valid record
-pub hear-valid : (p : Post) (f : Frame) → frameRefusal f ≡ 0 → Fits f → Shaped p → Valid p → Valid (hearStep p f .post)
+pub hear-valid : (p : Post) (f : Frame) → frameRefusal f ≡ 0 → Typed f → Shaped p → Valid p → Valid (hearStep p f .post)
 hear-valid p f a t s v = go (same-or-not (hearRefusal p f) 0)
   where
     go : (hearRefusal p f ≡ 0) ⊎ (hearRefusal p f ≢ 0) → Valid (hearStep p f .post)
@@ -62,7 +62,7 @@ order-judged p word b s e =
     (order-shaped p word b s v, valid-judged (orderStep p word .post) (order-valid p word b s v))
 
 -- and so does a hearing of an accepted frame
-pub hear-judged : (p : Post) (f : Frame) → frameRefusal f ≡ 0 → Fits f → Shaped p → badRecord p ≡ false
+pub hear-judged : (p : Post) (f : Frame) → frameRefusal f ≡ 0 → Typed f → Shaped p → badRecord p ≡ false
     → Shaped (hearStep p f .post) × (badRecord (hearStep p f .post) ≡ false)
 hear-judged p f a t s e =
     let v = judged-valid p e in
@@ -92,7 +92,7 @@ order-log p word b z s v =
     (order-valid p word b s v)
 
 -- after a hearing that is not refused
-pub hear-log : (p : Post) (f : Frame) → frameRefusal f ≡ 0 → Fits f → hearRefusal p f ≡ 0 → Shaped p → Valid p
+pub hear-log : (p : Post) (f : Frame) → frameRefusal f ≡ 0 → Typed f → hearRefusal p f ≡ 0 → Shaped p → Valid p
     → LogAfter p (heardPost p f) (hearStep p f .post)
 hear-log p f a t z s v =
     log-after p (heardPost p f) (hearStep p f .post) (heard-log p f) (hear-post p f z)

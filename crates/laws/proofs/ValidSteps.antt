@@ -7,7 +7,7 @@ use Prim.Native.Nat.{ℕ, _+_, _<_, max}
 use native.Mathlib.Omega.{arith}
 use borrow.Author.Tests.{ne-eqb}
 use Rattle.frame.specs.declared.Frame.{Frame}
-use Rattle.frame.specs.Types.{Fits}
+use Rattle.frame.specs.Types.{Typed}
 use Rattle.frame.specs.Refusals.{frameRefusal}
 use Rattle.cells.specs.Tables.{withStamp}
 use Rattle.post.specs.declared.Post.{Post}
@@ -59,7 +59,7 @@ ordered-log p word = refl
 -- ---- a hearing, up to delivery
 
 -- the post with a raised table is a record of its type
-pub raised-shaped : (p : Post) (f : Frame) → Fits f → Shaped p → Shaped (raisedPost p f)
+pub raised-shaped : (p : Post) (f : Frame) → Typed f → Shaped p → Shaped (raisedPost p f)
 unfolding raisedPost
 raised-shaped p f t s =
     clock-shaped p (p .clock .0) (p .serial .0) (raisedBelow (p .table) (f .entries) 8) (s .clock)
@@ -82,7 +82,7 @@ ticked-shaped p serial clock c s =
     s
 
 -- the post that has taken an order it heard is a record of its type
-pub taken-shaped : (p : Post) (f : Frame) → Fits f → hearRefusal p f ≡ 0 → isNext f (lastOf p (f .lane)) ≡ true → Shaped p → Shaped (taken p f)
+pub taken-shaped : (p : Post) (f : Frame) → Typed f → hearRefusal p f ≡ 0 → isNext f (lastOf p (f .lane)) ≡ true → Shaped p → Shaped (taken p f)
 unfolding taken
 taken-shaped p f t z n s = go (isSource p (p .lane)) refl
   where
@@ -133,7 +133,7 @@ module _ (p : Post) (f : Frame) where
   heard-other e = rw e
 
   -- it is a record of its type
-  pub heard-shaped : Fits f → hearRefusal p f ≡ 0 → Shaped p → Shaped (heardPost p f)
+  pub heard-shaped : Typed f → hearRefusal p f ≡ 0 → Shaped p → Shaped (heardPost p f)
   heard-shaped t z s = go (true-or-false (isNext f (lastOf p (f .lane))))
     where
       go : (isNext f (lastOf p (f .lane)) ≡ true) ⊎ (isNext f (lastOf p (f .lane)) ≡ false) → Shaped (heardPost p f)

@@ -3,7 +3,7 @@ use mathlib.Core.Path.{_≡_}
 use mathlib.Core.List.{List}
 use Prim.Native.Nat.{ℕ, _<_, _≤_}
 use Rattle.frame.specs.Layout.{noEntry}
-use Rattle.frame.specs.Types.{Fits}
+use Rattle.frame.specs.Types.{Typed}
 use Rattle.frame.specs.Refusals.{frameRefusal}
 use Rattle.frame.specs.declared.Entry.{Entry}
 use Rattle.frame.specs.declared.Frame.{Frame}
@@ -24,4 +24,4 @@ pub record IsNewest (table : List ℕ) (lane n : ℕ) (e : Entry) : Type 0 where
 -- f is a frame of its type that 7 to 11 do not turn down: it can be written, and the reader accepts it
 pub record Sendable (f : Frame) : Type 0 where
   pub good : frameRefusal f ≡ 0
-  pub fits : Fits f
+  pub fits : Typed f

@@ -18,11 +18,6 @@ module _ {A : Type 0} where
   NoRepeat [] = Unit {0}
   NoRepeat (x ∷ l) = (Mem x l → ⊥) × NoRepeat l
 
-  -- keys rise strictly along a list
-  abbrev pub RisingBy : (A → ℕ) → List A → Type 0
-  RisingBy key [] = Unit {0}
-  RisingBy key (x ∷ l) = ((y : A) → Mem y l → key x < key y) × RisingBy key l
-
 -- the places of the log in turn
 abbrev pub logOf : Post → List ℕ
 logOf p = take (p .logged) (p .log)

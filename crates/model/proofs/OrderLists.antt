@@ -7,11 +7,10 @@ use Prim.Native.Nat.{_≤_, _<_}
 use native.Mathlib.Omega.{arith}
 use lib.Dec.{ltb}
 use borrow.Author.Tests.{ltb-true, ltb-false}
-use Rattle.deliver.specs.Delivery.{insertBy, sortBy}
-use Rattle.laws.proofs.ListLaws.{Mem, mem-right, mem-append, RisingBy, Begins}
+use Rattle.laws.proofs.ListLaws.{Mem, mem-right, mem-append, Begins}
 use Rattle.laws.proofs.SortLaws.{mem-sort, sort-mem, ApartBy, sort-rises}
 use Rattle.roll.specs.Runs.{Order}
-use Rattle.roll.specs.Logs.{rank, insertOrder, inOrder, Rising}
+use Rattle.roll.specs.Logs.{rank, ranksLower, inOrder, Rising}
 
 -- no two orders of the list rank alike
 abbrev pub Apart : List Order → Type 0
@@ -19,35 +18,20 @@ Apart l = ApartBy rank l
 
 -- ---- what `inOrder` makes
 
--- it sorts, by a test that compares ranks
-abbrev ranksLower : Order → Order → Bool
-ranksLower x y = ltb (rank x) (rank y)
-
-insert-is : (x : Order) (l : List Order) → insertOrder x l ≡ insertBy ranksLower x l
-unfolding insertOrder insertBy
-insert-is x [] = refl
-insert-is x (y ∷ l) = ap (λ (r : List Order). cond (ltb (rank x) (rank y)) (x ∷ y ∷ l) (y ∷ r)) (insert-is x l)
-
-in-order-is : (l : List Order) → inOrder l ≡ sortBy ranksLower l
-unfolding inOrder sortBy
-in-order-is [] = refl
-in-order-is (x ∷ l) = insert-is x (inOrder l) ∙ ap (insertBy ranksLower x) (in-order-is l)
-
 -- the members of a list are members of the list in order
 pub mem-in-order : (z : Order) (l : List Order) → Mem z l → Mem z (inOrder l)
-mem-in-order z l m = rw (in-order-is l) (mem-sort ranksLower z l m)
+unfolding inOrder
+mem-in-order z l m = mem-sort ranksLower z l m
 
 -- and nothing else is
 pub in-order-mem : (z : Order) (l : List Order) → Mem z (inOrder l) → Mem z l
-in-order-mem z l m = sort-mem ranksLower z l (rw (in-order-is l) at m)
+unfolding inOrder
+in-order-mem z l m = sort-mem ranksLower z l m
 
 -- which rises where no two rank alike
-rises : (l : List Order) → RisingBy rank l → Rising l
-rises [] r = tt
-rises (x ∷ l) r = (r .0, rises l (r .1))
-
 pub in-order-rises : (l : List Order) → Apart l → Rising (inOrder l)
-in-order-rises l a = rw (in-order-is l) (rises (sortBy ranksLower l) (sort-rises ranksLower rank l (λ x y m n. refl) a))
+unfolding inOrder
+in-order-rises l a = sort-rises ranksLower rank l (λ x y m n. refl) a
 
 -- ---- lists one after the other
 

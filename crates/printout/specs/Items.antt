@@ -8,8 +8,8 @@ use Rattle.roll.specs.Runs.{Order}
 use Rattle.meaning.specs.Texts.{itemText, itemsText}
 
 -- a label, then `LINE NUMBER)` and a line feed
-abbrev pub refusalOf : List ℕ → ℕ → ℕ → List ℕ
-refusalOf label line number = label ++ decimal line ++ bytes " " ++ decimal number ++ bytes ")\n"
+abbrev pub refusalText : List ℕ → ℕ → ℕ → List ℕ
+refusalText label line number = label ++ decimal line ++ bytes " " ++ decimal number ++ bytes ")\n"
 
 -- `(post LANE (clock CLOCK) (sent SENT) (log`
 abbrev pub postHead : ℕ → ℕ → ℕ → List ℕ

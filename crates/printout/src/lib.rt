@@ -12,7 +12,7 @@ ghost use lib.ListN.{take};
 ghost use Rattle.post.specs.Heads.{postOf};
 ghost use Rattle.text.specs.Writing.{out, wrote};
 ghost use Rattle.meaning.specs.Texts.{badText, refusedText, postText};
-ghost use Rattle.printout.specs.Items.{refusalOf, postHead, itemOf, itemsOf};
+ghost use Rattle.printout.specs.Items.{refusalText, postHead, itemOf, itemsOf};
 
 // `(bad LINE NUMBER)`
 pub fn put_bad(buffer: &mut [u8], at: usize, line: u16, number: u8) -> usize
@@ -30,7 +30,7 @@ pub fn put_refused(buffer: &mut [u8], at: usize, line: u16, number: u8) -> usize
 
 // A label, then `LINE NUMBER)`.
 fn put_refusal(buffer: &mut [u8], at: usize, label: &[u8], line: u16, number: u8) -> usize
-    ensures { λ r. ⌜ out (now (buffer .exit)) r ≡ wrote (out (now (buffer .entry)) at) (refusalOf (now (label .entry)) line number) ⌝ }
+    ensures { λ r. ⌜ out (now (buffer .exit)) r ≡ wrote (out (now (buffer .entry)) at) (refusalText (now (label .entry)) line number) ⌝ }
 {
     let a = put_labelled(buffer, at, label, line);
     let a = put_labelled(buffer, a, b" ", number as u16);

@@ -1,13 +1,14 @@
 -- Delivery logs as lists of orders, and orders by stamp and then lane: document 01, "The words of demand 3". Assumes nothing.
-use Prim.Native.Nat.{ℕ, _+_, _*_, _/_, _%_, _<_}
-use mathlib.Core.Bool.{cond}
-use mathlib.Core.List.{List, [], _∷_, map}
+use Prim.Native.Nat.{ℕ, _+_, _*_, _/_, _%_}
+use mathlib.Core.Bool.{Bool}
+use mathlib.Core.List.{List, map}
 use lib.Dec.{ltb}
 use lib.ListN.{getD, take}
 use Rattle.post.specs.declared.Post.{Post}
+use Rattle.deliver.specs.Delivery.{sortBy}
 use Rattle.yard.specs.Yards.{postAt}
 use Rattle.yard.specs.Worlds.{World}
-use Rattle.laws.specs.Lists.{Mem}
+use Rattle.laws.specs.Lists.{RisingBy}
 use Rattle.roll.specs.Runs.{Order}
 
 -- the order that a post keeps at a place: 16 places for each lane, a place for each serial from 1 on
@@ -31,17 +32,13 @@ logAt w lane = ordersLogged (postAt (w .yard) lane)
 abbrev pub rank : Order → ℕ
 rank o = 8 * o .stamp + o .lane
 
--- an order put in front of the first that ranks above it
-unfoldable pub insertOrder : Order → List Order → List Order
-insertOrder x [] = x ∷ []
-insertOrder x (y ∷ l) = cond (ltb (rank x) (rank y)) (x ∷ y ∷ l) (y ∷ insertOrder x l)
+abbrev pub ranksLower : Order → Order → Bool
+ranksLower x y = ltb (rank x) (rank y)
 
 -- a list of orders by stamp and then lane
 unfoldable pub inOrder : List Order → List Order
-inOrder [] = []
-inOrder (x ∷ l) = insertOrder x (inOrder l)
+inOrder l = sortBy ranksLower l
 
 -- "each once": each order ranks above the one before, by stamp, and at equal stamps by lane
 abbrev pub Rising : List Order → Type 0
-Rising [] = Unit {0}
-Rising (o ∷ l) = ((later : Order) → Mem later l → rank o < rank later) × Rising l
+Rising l = RisingBy rank l

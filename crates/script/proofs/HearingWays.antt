@@ -30,10 +30,10 @@ use Rattle.yard.specs.Singles.{absentRefusal, frameAt}
 use Rattle.lane_steps.specs.InPlace.{Left, hearStopped, heardIn, frameHeardIn, finished}
 use Rattle.lane_steps.proofs.HearWays as ways
 use Rattle.lane_steps.proofs.FinishWays.{none-sent}
-use Rattle.script.specs.Rows.{Stands}
+use Rattle.script.specs.Rows.{PostStands}
 use Rattle.script.proofs.SoundLaws.{left-so, number-so, reads-so}
 
-module _ (known air : List ℕ) (p : Post) (frames k m : ℕ) (got : FrameRead) (st : Stands p frames air) (eg : got ≡ readOf (stretchOf air frames k))
+module _ (known air : List ℕ) (p : Post) (frames k m : ℕ) (got : FrameRead) (st : PostStands p frames air) (eg : got ≡ readOf (stretchOf air frames k))
     (em : m ≡ absentRefusal air (p .lane) (p .posts) frames k) (zm : m ≡ 0)
   where
     -- what is not absent is on the air

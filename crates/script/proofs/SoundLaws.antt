@@ -25,7 +25,7 @@ use Rattle.roll.proofs.RunLaws.{hearings-in-yard}
 use Rattle.agreement.specs.YardRefusals.{hearYardRefusal}
 use Rattle.lane_steps.specs.InPlace.{hearStopped}
 use Rattle.script.specs.declared.Sets.{Sets}
-use Rattle.script.specs.Rows.{Rows, rowPost, rowPosts, rowsYard, Reached, RowsReached, Stands, HeardAll}
+use Rattle.script.specs.Rows.{Rows, rowPost, rowPosts, rowsYard, Reached, RowsReached, PostStands, HeardAll}
 use Rattle.script.proofs.RowLaws.{row-at}
 
 -- ---- worlds
@@ -80,7 +80,7 @@ read-low bytes = go (badLength bytes)
     go true = omega arith
     go false = frame-low (frameOf bytes)
 
-module _ (p : Post) (frames : ℕ) (air : List ℕ) (k : ℕ) (st : Stands p frames air) where
+module _ (p : Post) (frames : ℕ) (air : List ℕ) (k : ℕ) (st : PostStands p frames air) where
   -- the post's hearing in the world's yard
   same : hearNumber (yardHears (st .world .air) (st .world .yard) (p .lane) k .answer) ≡ hearStopped air p frames k
   unfolding yardHears
@@ -147,8 +147,8 @@ module _ (p : Post) (frames : ℕ) (air : List ℕ) (k : ℕ) (st : Stands p fra
 
 -- ---- the post after some hearings, and the post of a row
 
-pub stands-more : (p q : Post) (known : List ℕ) (frames fr : ℕ) (air exit ks : List ℕ) → HeardAll p q known frames fr air exit ks → Stands p frames air
-    → Stands q fr exit
+pub stands-more : (p q : Post) (known : List ℕ) (frames fr : ℕ) (air exit ks : List ℕ) → HeardAll p q known frames fr air exit ks → PostStands p frames air
+    → PostStands q fr exit
 stands-more p q known frames fr air exit ks heard st = record {
   world = next;
   reached = reached-singles (st .world) next (map (hear i) ks) refl (st .reached);
@@ -175,7 +175,7 @@ stands-more p q known frames fr air exit ks heard st = record {
         let e : postWorld q fr exit ≡ hearings (postWorld (postAt (st .world .yard) i) (st .world .yard .frames) (st .world .air)) ks = rw (st .here, st .count, st .bytes) (heard .0) in
         h ∙ rw (← e)
 
-pub row-stands : (s : Sets) (R : Rows) (i frames : ℕ) (air : List ℕ) → i < 8 → RowsReached s R frames air → Stands (rowPost s R i) frames air
+pub row-stands : (s : Sets) (R : Rows) (i frames : ℕ) (air : List ℕ) → i < 8 → RowsReached s R frames air → PostStands (rowPost s R i) frames air
 unfolding rowPosts
 row-stands s R i frames air low r = record {
   world = worldOf (rowsYard s R frames (r .beacons) (r .first)) air;

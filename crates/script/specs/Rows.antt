@@ -128,7 +128,7 @@ pub record FirstReached (s : Sets) (R : Rows) (frames : ℕ) (first air : List �
   pub reached : Reached (record { yard = rowsYard s R frames beacons first; air = air })
 
 -- the post of a lane in such a world
-pub record Stands (p : Post) (frames : ℕ) (air : List ℕ) : Type 0 where
+pub record PostStands (p : Post) (frames : ℕ) (air : List ℕ) : Type 0 where
   pub world : World
   pub reached : Reached world
   pub low : p .lane < 8

@@ -8,7 +8,7 @@ ghost use mathlib.Core.Path.{_≡_};
 ghost use Rattle.post.specs.Heads.{postOf};
 ghost use Rattle.steps.specs.Refusals.{isNext};
 ghost use Rattle.lane_steps.specs.InPlace.{Left, heardIn};
-ghost use Rattle.script.specs.Rows.{Stands};
+ghost use Rattle.script.specs.Rows.{PostStands};
 
 // The post hears frame k (13, 21, 25, 26), and delivers; what it passes on is the air's next frame.
 pub(crate) fn hear(
@@ -23,7 +23,7 @@ pub(crate) fn hear(
     log: &mut [u8; 128],
     known: &mut [u8; 8],
 ) -> Placed
-    requires { ⌜ Stands (postOf h (now last) (now table) (now stamps) (now words) (now log)) frames (now air) ⌝ }
+    requires { ⌜ PostStands (postOf h (now last) (now table) (now stamps) (now words) (now log)) frames (now air) ⌝ }
     ensures { λ r. ⌜ _≡_ {A = Left} (record { number = r .number; post = postOf (r .head) (now (last .exit)) (now (table .exit)) (now (stamps .exit)) (now (words .exit)) (now (log .exit)); known = now (known .exit); frames = r .frames; air = now (air .exit) }) (heardIn (now (known .entry)) (now (air .entry)) (postOf h (now (last .entry)) (now (table .entry)) (now (stamps .entry)) (now (words .entry)) (now (log .entry))) frames k) ⌝ }
 {
     let absent = yard::parts::absent(air, h.lane, h.posts, frames, k);

@@ -15,7 +15,7 @@ ghost use Rattle.cells.specs.Tables.{orderPlace};
 ghost use Rattle.post.specs.Heads.{postOf};
 ghost use Rattle.deliver.specs.Known.{Known};
 ghost use Rattle.roll.specs.Loops.{laneFrames, lanesFrames, beaconFrames};
-ghost use Rattle.script.specs.Rows.{HeardAll, Stands};
+ghost use Rattle.script.specs.Rows.{HeardAll, PostStands};
 
 // What some hearings of one post leave: its numbers, and how many frames are on the air.
 pub(crate) struct PostRan {
@@ -38,7 +38,7 @@ pub(crate) fn hear_lanes(
     log: &mut [u8; 128],
     known: &mut [u8; 8],
 ) -> PostRan
-    requires { ⌜ Known (now known) (postOf h (now last) (now table) (now stamps) (now words) (now log)) × Stands (postOf h (now last) (now table) (now stamps) (now words) (now log)) frames (now air) ⌝ }
+    requires { ⌜ Known (now known) (postOf h (now last) (now table) (now stamps) (now words) (now log)) × PostStands (postOf h (now last) (now table) (now stamps) (now words) (now log)) frames (now air) ⌝ }
     ensures { λ r. ⌜ HeardAll (postOf h (now (last .entry)) (now (table .entry)) (now (stamps .entry)) (now (words .entry)) (now (log .entry))) (postOf (r .head) (now (last .exit)) (now (table .exit)) (now (stamps .exit)) (now (words .exit)) (now (log .exit))) (now (known .exit)) frames (r .frames) (now (air .entry)) (now (air .exit)) (lanesFrames (now (first .entry)) (now (sent .entry)) p 8) ⌝ }
 {
     let mut next = h;
@@ -84,7 +84,7 @@ fn hear_lane(
     log: &mut [u8; 128],
     known: &mut [u8; 8],
 ) -> PostRan
-    requires { ⌜ Known (now known) (postOf h (now last) (now table) (now stamps) (now words) (now log)) × Stands (postOf h (now last) (now table) (now stamps) (now words) (now log)) frames (now air) ⌝ }
+    requires { ⌜ Known (now known) (postOf h (now last) (now table) (now stamps) (now words) (now log)) × PostStands (postOf h (now last) (now table) (now stamps) (now words) (now log)) frames (now air) ⌝ }
     ensures { λ r. ⌜ HeardAll (postOf h (now (last .entry)) (now (table .entry)) (now (stamps .entry)) (now (words .entry)) (now (log .entry))) (postOf (r .head) (now (last .exit)) (now (table .exit)) (now (stamps .exit)) (now (words .exit)) (now (log .exit))) (now (known .exit)) frames (r .frames) (now (air .entry)) (now (air .exit)) (cond (eqb q p) [] (laneFrames (now (first .entry)) q (getD (now (sent .entry)) q 0))) ⌝ }
 {
     if q == p {
@@ -125,7 +125,7 @@ fn hear_serials(
     log: &mut [u8; 128],
     known: &mut [u8; 8],
 ) -> PostRan
-    requires { ⌜ Known (now known) (postOf h (now last) (now table) (now stamps) (now words) (now log)) × Stands (postOf h (now last) (now table) (now stamps) (now words) (now log)) frames (now air) ⌝ }
+    requires { ⌜ Known (now known) (postOf h (now last) (now table) (now stamps) (now words) (now log)) × PostStands (postOf h (now last) (now table) (now stamps) (now words) (now log)) frames (now air) ⌝ }
     ensures { λ r. ⌜ HeardAll (postOf h (now (last .entry)) (now (table .entry)) (now (stamps .entry)) (now (words .entry)) (now (log .entry))) (postOf (r .head) (now (last .exit)) (now (table .exit)) (now (stamps .exit)) (now (words .exit)) (now (log .exit))) (now (known .exit)) frames (r .frames) (now (air .entry)) (now (air .exit)) (laneFrames (now (first .entry)) q n) ⌝ }
 {
     let mut next = h;
@@ -166,7 +166,7 @@ pub(crate) fn hear_sources(
     log: &mut [u8; 128],
     known: &mut [u8; 8],
 ) -> PostRan
-    requires { ⌜ Known (now known) (postOf h (now last) (now table) (now stamps) (now words) (now log)) × Stands (postOf h (now last) (now table) (now stamps) (now words) (now log)) frames (now air) ⌝ }
+    requires { ⌜ Known (now known) (postOf h (now last) (now table) (now stamps) (now words) (now log)) × PostStands (postOf h (now last) (now table) (now stamps) (now words) (now log)) frames (now air) ⌝ }
     ensures { λ r. ⌜ HeardAll (postOf h (now (last .entry)) (now (table .entry)) (now (stamps .entry)) (now (words .entry)) (now (log .entry))) (postOf (r .head) (now (last .exit)) (now (table .exit)) (now (stamps .exit)) (now (words .exit)) (now (log .exit))) (now (known .exit)) frames (r .frames) (now (air .entry)) (now (air .exit)) (beaconFrames sources from p 8) ⌝ }
 {
     let mut next = h;
@@ -215,7 +215,7 @@ fn hear_source(
     log: &mut [u8; 128],
     known: &mut [u8; 8],
 ) -> PostRan
-    requires { ⌜ Known (now known) (postOf h (now last) (now table) (now stamps) (now words) (now log)) × Stands (postOf h (now last) (now table) (now stamps) (now words) (now log)) frames (now air) ⌝ }
+    requires { ⌜ Known (now known) (postOf h (now last) (now table) (now stamps) (now words) (now log)) × PostStands (postOf h (now last) (now table) (now stamps) (now words) (now log)) frames (now air) ⌝ }
     ensures { λ r. ⌜ HeardAll (postOf h (now (last .entry)) (now (table .entry)) (now (stamps .entry)) (now (words .entry)) (now (log .entry))) (postOf (r .head) (now (last .exit)) (now (table .exit)) (now (stamps .exit)) (now (words .exit)) (now (log .exit))) (now (known .exit)) frames (r .frames) (now (air .entry)) (now (air .exit)) (cond (hasLane sources i && not (eqb i p)) (k ∷ []) []) ⌝ }
 {
     if cells::has(sources, i) & (i != p) {

@@ -7,7 +7,7 @@ use native.Mathlib.Omega.{arith}
 use lib.Dec.{eqb}
 use borrow.Author.Tests.{eqb-true}
 use Rattle.frame.specs.Layout.{frameOf, entryOf}
-use Rattle.frame.specs.Types.{AreBytes, Fits}
+use Rattle.frame.specs.Types.{AreBytes, Typed}
 use Rattle.frame.specs.Refusals.{badLength, readRefusal}
 use Rattle.frame.proofs.Laws.{passed, readable}
 use Rattle.post.specs.declared.Post.{Post}
@@ -82,7 +82,7 @@ stamps-fit bytes h (suc (suc (suc (suc (suc (suc zero)))))) = omega (arith, h 27
 stamps-fit bytes h (suc (suc (suc (suc (suc (suc (suc zero))))))) = omega (arith, h 30, h 31)
 stamps-fit bytes h (suc (suc (suc (suc (suc (suc (suc (suc n)))))))) = omega arith
 
-bytes-fit : (bytes : List ℕ) → AreBytes bytes → Fits (frameOf bytes)
+bytes-fit : (bytes : List ℕ) → AreBytes bytes → Typed (frameOf bytes)
 unfolding frameOf
 bytes-fit bytes h = record {
   stamp = omega (arith, h 4, h 5);

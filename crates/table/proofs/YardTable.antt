@@ -16,12 +16,12 @@ use Rattle.yard.specs.Singles.{framesAfter, postOrders, postOrdersAir, firstAft
 use Rattle.yard.specs.Worlds.{single, singles}
 use Rattle.roll.specs.RollCall.{laneHears, lanesHears, postsHear, beaconsSent, sourcesBelow, beaconsHeard, postsHearBeacons, rollSteps, rollRefusal, rollCall, rollCallAir}
 use Rattle.roll.specs.Runs.{answer, step, run, orderSentBy, sentBy, sent}
-use Rattle.roll.specs.Logs.{insertOrder, inOrder}
+use Rattle.roll.specs.Logs.{inOrder}
 use Rattle.table.specs.Scripts.{answers}
 use Rattle.table.specs.YardCases.{YardBench}
 
 pub yardBench : YardBench
-unfolding anyBelow frameOf bytesOf badEntries frameRefusal readRefusal placeRefusal placed airWith stampUnder withStamp raised raisedBelow newer newestBelow newestEntries kept ticked ownTaken raisedPost taken allBelow isLogged isDue dueBelow comesBefore insertBy sortBy duePlaces dueLog delivered orderRefusal strangeEntries hearRefusal orderSent orderStep hearTaken hearOther hearStep beaconStep freshYard framesAfter postOrders postOrdersAir firstAfter yardOrders yardOrdersAir postHears postHearsAir yardHears yardHearsAir postBeacons postBeaconsAir yardBeacons yardBeaconsAir single singles laneHears lanesHears postsHear beaconsSent sourcesBelow beaconsHeard postsHearBeacons rollSteps rollRefusal rollCall rollCallAir answer step run orderSentBy sentBy sent insertOrder inOrder ones answers
+unfolding anyBelow frameOf bytesOf badEntries frameRefusal readRefusal placeRefusal placed airWith stampUnder withStamp raised raisedBelow newer newestBelow newestEntries kept ticked ownTaken raisedPost taken allBelow isLogged isDue dueBelow comesBefore insertBy sortBy duePlaces dueLog delivered orderRefusal strangeEntries hearRefusal orderSent orderStep hearTaken hearOther hearStep beaconStep freshYard framesAfter postOrders postOrdersAir firstAfter yardOrders yardOrdersAir postHears postHearsAir yardHears yardHearsAir postBeacons postBeaconsAir yardBeacons yardBeaconsAir single singles laneHears lanesHears postsHear beaconsSent sourcesBelow beaconsHeard postsHearBeacons rollSteps rollRefusal rollCall rollCallAir answer step run orderSentBy sentBy sent inOrder ones answers
 yardBench = record {
   P1-answers = refl;
   P1-printout = refl;

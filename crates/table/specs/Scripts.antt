@@ -30,8 +30,8 @@ abbrev pub lineOf : World → ℕ → Line
 lineOf w lane = record { clock = postAt (w .yard) lane .clock .0; sent = postAt (w .yard) lane .serial .0; log = logAt w lane }
 
 -- the lines of the posts on these lanes
-abbrev pub linesOf : World → List ℕ → List Line
-linesOf w lanes = map (lineOf w) lanes
+abbrev pub postLines : World → List ℕ → List Line
+postLines w lanes = map (lineOf w) lanes
 
 -- "A refusal yields only its number; post, yard, air .. keep their contents."
 abbrev pub Refuses : World → Step → Answer → Type 0

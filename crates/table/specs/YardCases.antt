@@ -9,12 +9,12 @@ use Rattle.roll.specs.RollCall.{rollSteps}
 use Rattle.roll.specs.Runs.{one, roll, answer, run, sent}
 use Rattle.roll.specs.Logs.{logAt, inOrder}
 use Rattle.table.specs.Cases.{frame4Bytes}
-use Rattle.table.specs.Scripts.{answers, lineOf, linesOf, line, theOrder, sends, takes, hearsAgain, hearsEarly, calls, hearRefused, three, alone, two, began, twoOrders, toLine4, toLine6, toLine7, order417, order90}
+use Rattle.table.specs.Scripts.{answers, lineOf, postLines, line, theOrder, sends, takes, hearsAgain, hearsEarly, calls, hearRefused, three, alone, two, began, twoOrders, toLine4, toLine6, toLine7, order417, order90}
 
 pub record YardBench : Type 0 where
   -- P1: "(refused 7 25)", then clocks 4, 3 and 0, own serials 1, 1 and 0, and the three logs
   pub P1-answers : answers three toLine7 ≡ sends 1 1 0 ∷ takes 0 ∷ sends 1 3 0 ∷ takes 1 ∷ takes 2 ∷ hearRefused 25 ∷ []
-  pub P1-printout : linesOf (run three toLine7) (0 ∷ 1 ∷ 2 ∷ []) ≡
+  pub P1-printout : postLines (run three toLine7) (0 ∷ 1 ∷ 2 ∷ []) ≡
       line 4 1 (order417 ∷ order90 ∷ []) ∷ line 3 1 [] ∷ line 0 0 (order417 ∷ []) ∷ []
   -- P2: "frame 4 of it", of five frames
   pub P2-frame-4 : stretchAt (run three toLine7 .air) 4 ≡ frame4Bytes
@@ -27,7 +27,7 @@ pub record YardBench : Type 0 where
   pub P4-answer : answer (run three toLine6) roll ≡ calls 10
   pub P4-steps : rollSteps (run three toLine6) ≡
       hear 0 2 ∷ hear 1 0 ∷ hear 2 0 ∷ hear 2 2 ∷ beacon 0 ∷ beacon 1 ∷ hear 0 7 ∷ hear 1 6 ∷ hear 2 6 ∷ hear 2 7 ∷ []
-  pub P4-posts : linesOf (run three (toLine6 ++ (roll ∷ []))) (0 ∷ 1 ∷ 2 ∷ []) ≡
+  pub P4-posts : postLines (run three (toLine6 ++ (roll ∷ []))) (0 ∷ 1 ∷ 2 ∷ []) ≡
       line 4 1 (order417 ∷ order90 ∷ []) ∷ line 3 1 [] ∷ line 0 0 (order417 ∷ order90 ∷ []) ∷ []
   pub P4-sent : sent three (toLine6 ++ (roll ∷ [])) ≡ order417 ∷ order90 ∷ []
   pub P4-all : logAt (run three (toLine6 ++ (roll ∷ []))) 2 ≡ inOrder (sent three toLine6)
@@ -37,7 +37,7 @@ pub record YardBench : Type 0 where
   pub P5-roll : lineOf (run alone (one (order 0 5) ∷ roll ∷ [])) 0 ≡ line 1 1 (theOrder 0 1 1 5 ∷ [])
   -- P6: "posts 0 and 1 both, orders 7 and 8, roll: 6 steps, logs (1 0 7) (1 1 8)"
   pub P6-answers : answers two (one (order 0 7) ∷ one (order 1 8) ∷ roll ∷ []) ≡ sends 1 1 0 ∷ sends 1 1 0 ∷ calls 6 ∷ []
-  pub P6-logs : linesOf (run two (one (order 0 7) ∷ one (order 1 8) ∷ roll ∷ [])) (0 ∷ 1 ∷ []) ≡
+  pub P6-logs : postLines (run two (one (order 0 7) ∷ one (order 1 8) ∷ roll ∷ [])) (0 ∷ 1 ∷ []) ≡
       line 2 1 (theOrder 0 1 1 7 ∷ theOrder 1 1 1 8 ∷ []) ∷ line 2 1 (theOrder 0 1 1 7 ∷ theOrder 1 1 1 8 ∷ []) ∷ []
   -- P7: "a frame heard twice: again, clock unchanged", and so is all else
   pub P7-answers : answers (run three began) (one (hear 1 0) ∷ one (hear 1 0) ∷ []) ≡ takes 0 ∷ hearsAgain 0 ∷ []

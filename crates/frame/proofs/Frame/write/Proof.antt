@@ -2,7 +2,7 @@ use borrow.Author.Needs.{needs}
 use native.Mathlib.Omega.{arith}
 use lib.ListN.{length-map}
 use mathlib.Core.Path.{_≡_, sym}
-use Rattle.frame.specs.Types.{Fits}
+use Rattle.frame.specs.Types.{Typed}
 use Rattle.frame.proofs.Laws.{write-short, write-refused, write-accepted}
 use Rattle.frame.proofs.Theorems.{reads-back}
 use Rattle.frame.proofs.Values.{stamps-fit}
@@ -24,7 +24,7 @@ returns-3 c =
     let self = start .args .self in
     let buffer = start .args .buffer .now in
     let entries = start .good .0 .1 .1 .1 .1 .1 .1 .1 .1 .0 in
-    let fits : Fits self = record {
+    let fits : Typed self = record {
       stamp = search needs;
       word = search needs;
       count = simp length-map at (entries .1 .0 .1);

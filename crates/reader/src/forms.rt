@@ -1,4 +1,5 @@
 // The forms of a script's lines: Forms.antt of the crate `lines`.
+use frame::Frame;
 use lines::YardScan;
 use scan::Scan;
 use scan::byte_at;
@@ -146,11 +147,13 @@ fn as_role(c: Scan, role: u32, r: Scan) -> Scan
     }
 }
 
+const LANES: u32 = Frame::LANES as u32;
+
 // A lane's bit in a set of eight; none for a lane over 7.
 fn bit_of(lane: u32) -> u8
     ensures { λ r. ⌜ r ≡ bitOf lane ⌝ }
 {
-    if lane < 8 { 1u8 << lane } else { 0 }
+    if lane < LANES { 1u8 << lane } else { 0 }
 }
 
 // A post more: its lane is at most 7 and above those before it just when its bit is above their set.

@@ -4,6 +4,7 @@ use crate::forms::read_hear;
 use crate::forms::read_order;
 use crate::forms::read_roll;
 use crate::forms::read_yard;
+use frame::Frame;
 use lines::Line;
 ghost use mathlib.Core.Path.{_≡_};
 ghost use mathlib.Core.Bool.{cond};
@@ -12,6 +13,8 @@ ghost use Rattle.lines.specs.Forms.{orderForm, hearForm, beaconForm, rollForm, 
 ghost use Rattle.lines.specs.Lines.{stepLineRefusal, orderLine, hearLine, beaconLine, rollLine, yardOr};
 ghost use Rattle.lines.specs.declared.Line.the-variants.{Refused};
 
+const LAST_LANE: u32 = Frame::LAST_LANE as u32;
+
 // Refusals 3, 4 and 5 of a step.
 fn step_line_refusal(at: usize, lane: u32, word: u32) -> u8
     ensures { λ r. ⌜ r ≡ stepLineRefusal at lane word ⌝ }
@@ -19,7 +22,7 @@ fn step_line_refusal(at: usize, lane: u32, word: u32) -> u8
     if at == 0 {
         return 3;
     }
-    if 7 < lane {
+    if LAST_LANE < lane {
         return 4;
     }
     if 65535 < word {

@@ -11,6 +11,7 @@ use cases::after;
 use cases::byte_at;
 use cases::digits;
 use cases::part;
+use frame::Frame;
 use libc::STDIN_FILENO;
 use libc::STDOUT_FILENO;
 
@@ -142,7 +143,7 @@ fn place(letter: u8, number: usize) -> Part {
             length: 2,
         },
         _ => Part {
-            from: 15 + number % 8 * 928,
+            from: 15 + number % Frame::LANES * 928,
             length: 8,
         },
     }

@@ -4,6 +4,7 @@ use crate::answers::put_told;
 use crate::cases::after;
 use crate::cases::byte_at;
 use crate::cases::part;
+use frame::Frame;
 use frame::Stamp;
 use lines::Line;
 use post::Head;
@@ -30,7 +31,7 @@ pub(crate) fn play(lane: usize, set: Setting, script: &[u8], came: &mut [u8]) ->
     let mut left = [0u8; 73229];
     crate::yards::run(script, 65536, false, &mut left);
     let first = reader::read_line(script, 0);
-    let s = begin(first, (lane % 8) as u8, set);
+    let s = begin(first, (lane % Frame::LANES) as u8, set);
     let s = play_lines(s, script, part(&left, 7692, 73228), came);
     let n = put_post(s.post, came, s.to);
     put_text(came, n, &s.buffer)
@@ -70,7 +71,7 @@ fn play_lines<'a>(begun: Story, script: &'a [u8], air: &'a [u8], came: &mut [u8]
 
 // The story after the line at a place. The lane of a step stands after the line's first space; b'0' is a multiple of 8.
 fn play_line<'a>(s: Story, script: &'a [u8], at: usize, air: &'a [u8], came: &mut [u8]) -> Story {
-    if byte_at(script, after(script, at, b' ')) % 8 != s.post.lane {
+    if byte_at(script, after(script, at, b' ')) % Post::LANES != s.post.lane {
         return s;
     }
     let mut buffer = [0u8; 32];

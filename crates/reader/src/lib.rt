@@ -8,7 +8,7 @@ use lines::Line;
 ghost use mathlib.Core.Path.{_≡_};
 ghost use Prim.Native.Nat.{_+_, _≤_};
 ghost use lib.ListN.{length, getD};
-ghost use Rattle.lines.specs.Lines.{lineAt, numberOf, nextOf, linesOf, judgedLines, judged};
+ghost use Rattle.lines.specs.Lines.{lineAt, linesOf, judgedLines, judged};
 ghost use Rattle.lines.specs.Values.{valuesOf, valuesAt};
 
 // The line that begins at a place: the letter after its `(` says which form it can have.
@@ -38,60 +38,6 @@ fn byte_after(s: &[u8], at: usize) -> u8
     }
 }
 
-// The number that a line is refused by, or 0.
-pub fn number_of(l: Line) -> u8
-    ensures { λ r. ⌜ r ≡ numberOf l ⌝ }
-{
-    match l {
-        Line::Yard {
-            posts: _,
-            sources: _,
-            dests: _,
-            next: _,
-        } => 0,
-        Line::Order {
-            lane: _,
-            word: _,
-            next: _,
-        } => 0,
-        Line::Hear {
-            lane: _,
-            frame: _,
-            next: _,
-        } => 0,
-        Line::Beacon { lane: _, next: _ } => 0,
-        Line::Roll { next: _ } => 0,
-        Line::Refused(number) => number,
-    }
-}
-
-// The place of the line after a line; nothing is read after a refused one.
-pub fn next_of(s: &[u8], l: Line) -> usize
-    ensures { λ r. ⌜ r ≡ nextOf (now (s .entry)) l ⌝ }
-{
-    match l {
-        Line::Yard {
-            posts: _,
-            sources: _,
-            dests: _,
-            next,
-        } => next,
-        Line::Order {
-            lane: _,
-            word: _,
-            next,
-        } => next,
-        Line::Hear {
-            lane: _,
-            frame: _,
-            next,
-        } => next,
-        Line::Beacon { lane: _, next } => next,
-        Line::Roll { next } => next,
-        Line::Refused(_) => s.len(),
-    }
-}
-
 // Refusals 1 to 5, by the first refused line.
 pub fn judge(s: &[u8]) -> Judged
     ensures { λ r. ⌜ r ≡ judged (now (s .entry)) ⌝ }
@@ -114,8 +60,8 @@ fn judge_lines(s: &[u8]) -> Judged
     let mut number = 0u8;
     while at < s.len() {
         let l = read_line(s, at);
-        number = number_of(l);
-        at = next_of(s, l);
+        number = lines::number_of(l);
+        at = lines::next_of(s, l);
         line = line + 1;
     }
     Judged {

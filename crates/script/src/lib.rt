@@ -75,7 +75,7 @@ fn run_good(script: &[u8], air: &mut [u8], output: &mut [u8]) -> usize
 {
     let first_line = reader::read_line(script, 0);
     let s = line_steps::sets_of(first_line);
-    let from = reader::next_of(script, first_line);
+    let from = lines::next_of(script, first_line);
     let mut clocks = [0u16; 8];
     let mut serials = [0u8; 8];
     let mut loggeds = [0u8; 8];
@@ -166,7 +166,7 @@ fn run_lines(
         to = line_steps::put_refusal(output, to, line, stepped.number);
         frames = stepped.frames;
         beacons = stepped.beacons;
-        at = reader::next_of(script, l);
+        at = lines::next_of(script, l);
     }
     Ran {
         to: to,

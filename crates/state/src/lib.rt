@@ -48,7 +48,7 @@ fn run_good(script: &[u8], air: &mut [u8], state: &mut [u8]) -> usize
 {
     let first = reader::read_line(script, 0);
     let yard = line_steps::yard_of(first);
-    let from = reader::next_of(script, first);
+    let from = lines::next_of(script, first);
     let ran = run_lines(script, air, yard, from);
     let last = ran.yard;
     let answer = ran.answer;
@@ -69,7 +69,7 @@ fn run_lines(script: &[u8], air: &mut [u8], y: Yard, from: usize) -> Stepped
         let stepped = line_steps::run_step(now_yard, air, l);
         now_yard = stepped.yard;
         answer = stepped.answer;
-        at = reader::next_of(script, l);
+        at = lines::next_of(script, l);
     }
     Stepped {
         yard: now_yard,

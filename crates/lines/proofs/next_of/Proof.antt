@@ -1,6 +1,6 @@
 use borrow.Author.Needs.{needs}
-use Rattle.reader.proofs.next_of.Statement.{statement}
-use Rattle.reader.proofs.next_of.Tie as tie
+use Rattle.lines.proofs.next_of.Statement.{statement}
+use Rattle.lines.proofs.next_of.Tie as tie
 
 returns : tie.Need-returns
 returns c = rw (c .before .l .given .1)

@@ -131,7 +131,8 @@ fn run_verb<'a>(
     }
 }
 
-// Where a frame stands in what a script leaves, the number of frames, or what a post took last from each lane.
+// Where a frame stands in what a script leaves, the number of frames, or what a post took last from each lane: first the
+// 7,692 bytes of the state, as c/drift_script.h lays them out, then the air.
 fn place(letter: u8, number: usize) -> Part {
     match letter {
         b'f' => Part {
@@ -149,6 +150,7 @@ fn place(letter: u8, number: usize) -> Part {
     }
 }
 
+// Prints the case's name and how it came out: 1 where it is the same, else 0.
 fn tell<'a>(name: &'a [u8], expected: &'a [u8], came: &'a [u8]) -> u16 {
     io::write_all(STDOUT_FILENO, name);
     if cases::is_same(expected, came) {

@@ -12,8 +12,8 @@ use borrow.Author.Tests.{ltb-true, eqb-true, eq-eqb}
 use Rattle.frame.specs.Lanes.{anyBelow}
 use Rattle.post.specs.declared.Post.{Post}
 use Rattle.post.specs.Record.{isDest, withLog}
-use Rattle.deliver.specs.declared.NewLog.{NewLog}
-use Rattle.deliver.specs.declared.Delivered.{Delivered}
+use Rattle.deliver.specs.Delivery.{NewLog}
+use Rattle.deliver.specs.Delivery.{Delivered}
 use Rattle.deliver.specs.Delivery.{allBelow, agrees, isTaken, isLogged, isDue, stampAt, dueBelow, duePlaces, dueLog, delivered}
 use Rattle.deliver.specs.Known.{Known, isDueFrom, dueBelowFrom, duePlacesFrom, dueLogFrom, joinedFrom, advanced, knownBelow, knownAfter}
 

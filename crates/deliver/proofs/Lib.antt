@@ -2,6 +2,6 @@ pub mod Turns
 pub mod Keys
 pub mod Gathering
 pub mod Waiting
-pub mod Bytes
 pub mod Ways
+pub mod RowWays
 pub mod KnownLaws

@@ -10,11 +10,9 @@ use lib.Dec.{ltb}
 use lib.ListN.{getD}
 use borrow.Author.Tests.{ltb-true, eqb-true, lt-ltb, le-ltb}
 use Rattle.frame.specs.Lanes.{anyBelow}
-use Rattle.frame.specs.declared.Serial.{Serial}
-use Rattle.frame.specs.declared.Stamp.{Stamp}
 use Rattle.post.specs.declared.Post.{Post}
 use Rattle.deliver.specs.declared.Least.{Least}
-use Rattle.deliver.specs.declared.NewLog.{NewLog}
+use Rattle.deliver.specs.Delivery.{NewLog}
 use Rattle.deliver.specs.Delivery.{isTaken, isLogged, isDue, stampAt, allBelow, agrees, sortBy}
 use Rattle.deliver.specs.Known.{isDueFrom, dueBelowFrom, duePlacesFrom, dueLogFrom}
 use Rattle.deliver.specs.Loops.{sameAt, upTo, readyAt, readyIn, leastBelow}
@@ -92,15 +90,14 @@ module _ (known last stamps : List ℕ) (least : Least) (lane : ℕ) where
   unfolding readyAt
   untaken-not k h = rw (le-ltb k (getD last lane 0) h)
 
-  pub ready-first : (s : Serial) → s ≡ record { 0 = getD known lane 0 } → false ≡ anyBelow test (min (s .0) 16)
+  pub ready-first : (s : ℕ) → s ≡ getD known lane 0 → false ≡ anyBelow test (min s 16)
   ready-first s e =
-      let n : ℕ = min (s .0) 16 in
+      let n : ℕ = min s 16 in
       let z : 0 + n ≡ n = omega arith in
-      let v : s .0 ≡ getD known lane 0 = ap (λ (x : Serial). x .0) e in
       none-yet test ∙ sym (any-past test 0 n (λ i a b. known-not i (omega arith))) ∙ ap (anyBelow test) z
 
-  pub ready-more : (k : ℕ) (b x : Bool) (s : Stamp) → getD known lane 0 ≤ k → k < min (getD last lane 0) 16 → b ≡ anyBelow test (min k 16)
-      → s ≡ record { 0 = getD stamps (lane * 16 + k) 0 } → x ≡ upTo least (s .0) → (b || x) ≡ anyBelow test (min (k + 1) 16)
+  pub ready-more : (k : ℕ) (b x : Bool) (s : ℕ) → getD known lane 0 ≤ k → k < min (getD last lane 0) 16 → b ≡ anyBelow test (min k 16)
+      → s ≡ getD stamps (lane * 16 + k) 0 → x ≡ upTo least s → (b || x) ≡ anyBelow test (min (k + 1) 16)
   unfolding readyAt
   ready-more k b x s h l p e q =
       let i : min (k + 1) 16 ≡ k + 1 = omega arith in

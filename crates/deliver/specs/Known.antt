@@ -7,9 +7,8 @@ use lib.Dec.{ltb, eqb}
 use lib.ListN.{length, getD, set}
 use lib.Seq.{sets}
 use Rattle.post.specs.declared.Post.{Post}
-use Rattle.post.specs.Record.{isDest}
-use Rattle.deliver.specs.declared.NewLog.{NewLog}
-use Rattle.deliver.specs.Delivery.{isLogged, isDue, comesBefore, sortBy}
+use Rattle.post.specs.Record.{isDest, withLog}
+use Rattle.deliver.specs.Delivery.{NewLog, isLogged, isDue, comesBefore, sortBy}
 
 -- `known` has for each lane the serial up to which its orders are known to be logged: all that it says is so
 pub record Known (known : List ℕ) (p : Post) : Type 0 where
@@ -52,3 +51,16 @@ knownBelow known log from (suc n) = advanced (knownBelow known log from n) (getD
 -- after a delivery, by the places that joined the log
 unfoldable pub knownAfter : List ℕ → Post → List ℕ
 knownAfter known p = knownBelow known (joinedFrom known p .log) (p .logged) (joinedFrom known p .logged - p .logged)
+
+-- the whole delivery: the post with its new log, what is known then, and how many orders joined
+pub record KnownDelivery : Type 0 where
+  pub post : Post
+  pub known : List ℕ
+  pub count : ℕ
+
+unfoldable pub deliveredFrom : List ℕ → Post → KnownDelivery
+deliveredFrom known p = record {
+  post = withLog p (joinedFrom known p .log) (joinedFrom known p .logged);
+  known = knownAfter known p;
+  count = joinedFrom known p .count;
+}

@@ -1,64 +1,53 @@
-// Which orders are ready: taken, not known to be logged, and of a stamp up to which every source has been heard.
+// Which orders are ready: taken, not known to be logged, and of a stamp up to which every source has been heard. Rows
+// are whole here, so the loops read their cells without a guard.
 use crate::Least;
-use cells::PLACES;
-use cells::TABLE;
 use frame::Frame;
 use frame::Serial;
 use frame::Stamp;
-use post::Post;
+use row::SerialCell;
 ghost use mathlib.Core.Path.{_≡_};
-ghost use Prim.Native.Nat.{_+_, _*_, _<_, min};
+ghost use Prim.Native.Nat.{_+_, _*_, _<_, _≤_, min};
 ghost use lib.ListN.{getD};
 ghost use Rattle.frame.specs.Lanes.{anyBelow};
+ghost use Rattle.post.specs.Record.{lastOf};
+ghost use Rattle.row.specs.Rows.{postIn, knownIn};
 ghost use Rattle.deliver.specs.Delivery.{allBelow};
-ghost use Rattle.deliver.specs.Loops.{sameAt, fourOf, eightOf, Bytes, upTo, readyIn, lowered, leastBelow};
+ghost use Rattle.deliver.specs.Loops.{sameAt, readyIn, lowered, leastBelow, upTo};
+
+// Where the parts that the loops read begin.
+const LAST: usize = row::LAST as usize;
+
+const KNOWN: usize = row::KNOWN as usize;
+
+const STAMPS: usize = row::STAMPS as usize;
+
+// Orders of a lane.
+pub(crate) const SERIALS: u16 = Serial::LAST as u16;
 
 // Whether each lane's last order taken is the last one known to be logged: then none waits.
-pub(crate) fn none_waits<'a>(known: &'a [u8; Frame::LANES], last: &'a [u8; Frame::LANES]) -> bool
-    ensures { λ r. ⌜ r ≡ allBelow (sameAt (now (known .entry)) (now (last .entry))) 8 ⌝ }
+pub(crate) fn none_waits(row: &[u16]) -> bool
+    requires { do ⌜ 543 ≤ (← ⟦row.len()⟧) ⌝ }
+    ensures { λ r. ⌜ r ≡ allBelow (sameAt (knownIn (now (row .entry))) (postIn (now (row .entry)) .last)) 8 ⌝ }
 {
-    eight(known) == eight(last)
-}
-
-// The serials of all lanes as one number, so that they are compared at once.
-fn eight(serials: &[u8; Frame::LANES]) -> u64
-    ensures { λ r. ⌜ (r ≡ eightOf (now (serials .entry))) × Bytes (now (serials .entry)) 0 × Bytes (now (serials .entry)) 4 ⌝ }
-{
-    four(serials, 0) + 4294967296 * four(serials, 4)
-}
-
-fn four(serials: &[u8; Frame::LANES], first: u8) -> u64
-    requires { ⌜ first < 5 ⌝ }
-    ensures { λ r. ⌜ (r ≡ fourOf (now (serials .entry)) first) × Bytes (now (serials .entry)) first × (r < 4294967296) ⌝ }
-{
-    let a = serial_of(serials, first);
-    let b = serial_of(serials, first + 1);
-    let c = serial_of(serials, first + 2);
-    let d = serial_of(serials, first + 3);
-    a + 256 * b + 65536 * c + 16777216 * d
-}
-
-fn serial_of(serials: &[u8; Frame::LANES], lane: u8) -> u64
-    ensures { λ r. ⌜ (r ≡ getD (now (serials .entry)) lane 0) × (r < 256) ⌝ }
-{
-    let serial = cells::last_taken(serials, lane);
-    serial.0 as u64
+    let mut same = true;
+    for i in 0..Frame::LANES {
+        same = same & (row[KNOWN + i] == row[LAST + i]);
+    }
+    same
 }
 
 // The stamp up to which every source has been heard: the least of their entries at the last serial taken.
-pub(crate) fn least_of<'a>(
-    sources: u8,
-    last: &'a [u8; Frame::LANES],
-    table: &'a [u16; TABLE],
-) -> Least
-    ensures { λ r. ⌜ r ≡ leastBelow sources (now (last .entry)) (now (table .entry)) 8 ⌝ }
+pub(crate) fn least_of(row: &[u16]) -> Least
+    requires { do ⌜ 543 ≤ (← ⟦row.len()⟧) ⌝ }
+    ensures { λ r. ⌜ r ≡ leastBelow (postIn (now (row .entry)) .sources) (postIn (now (row .entry)) .last) (postIn (now (row .entry)) .table) 8 ⌝ }
 {
+    let sources = row::sources(row);
     let mut least = Least {
         some: false,
         stamp: Stamp(0),
     };
-    for i in 0..Post::LANES {
-        let heard = cells::stamp_under(table, i, cells::last_taken(last, i));
+    for i in 0..row::LANES {
+        let heard = row::stamp_under(row, i, last_of(row, i));
         least = lower(least, cells::has(sources, i), heard);
     }
     least
@@ -85,36 +74,27 @@ fn lower(least: Least, source: bool, heard: Stamp) -> Least
 }
 
 // Whether any order that waits has a stamp not above the least.
-pub(crate) fn any_ready<'a>(
-    known: &'a [u8; Frame::LANES],
-    last: &'a [u8; Frame::LANES],
-    stamps: &'a [u16; PLACES],
-    least: Least,
-) -> bool
-    ensures { λ r. ⌜ r ≡ anyBelow (readyIn (now (known .entry)) (now (last .entry)) (now (stamps .entry)) least) 8 ⌝ }
+pub(crate) fn any_ready(row: &[u16], least: Least) -> bool
+    requires { do ⌜ 543 ≤ (← ⟦row.len()⟧) ⌝ }
+    ensures { λ r. ⌜ r ≡ anyBelow (readyIn (knownIn (now (row .entry))) (postIn (now (row .entry)) .last) (postIn (now (row .entry)) .stamps) least) 8 ⌝ }
 {
     let mut ready = false;
-    for lane in 0..Post::LANES {
-        ready = ready | ready_in(lane, known, last, stamps, least);
+    for lane in 0..row::LANES {
+        ready = ready | ready_in(lane, row, least);
     }
     ready
 }
 
-fn ready_in<'a>(
-    lane: u8,
-    known: &'a [u8; Frame::LANES],
-    last: &'a [u8; Frame::LANES],
-    stamps: &'a [u16; PLACES],
-    least: Least,
-) -> bool
-    requires { ⌜ lane < 8 ⌝ }
-    ensures { λ r. ⌜ r ≡ readyIn (now (known .entry)) (now (last .entry)) (now (stamps .entry)) least lane ⌝ }
+fn ready_in(lane: u16, row: &[u16], least: Least) -> bool
+    requires { do ⌜ (543 ≤ (← ⟦row.len()⟧)) × (lane < 8) ⌝ }
+    ensures { λ r. ⌜ r ≡ readyIn (knownIn (now (row .entry))) (postIn (now (row .entry)) .last) (postIn (now (row .entry)) .stamps) least lane ⌝ }
 {
-    let from = cells::last_taken(known, lane);
-    let taken = taken_from(last, lane);
+    let from = known_at(row, lane);
+    let taken = taken_from(row, lane);
+    let first = lane * SERIALS;
     let mut ready = false;
     for k in from.0..taken {
-        let stamp = cells::stamp_at(stamps, (lane * Serial::LAST + k) as usize);
+        let stamp = stamp_of(row, first + k);
         ready = ready | up_to(least, stamp);
     }
     ready
@@ -127,15 +107,37 @@ pub(crate) fn up_to(least: Least, stamp: Stamp) -> bool
 }
 
 // How many orders of a lane are taken.
-pub(crate) fn taken_from(last: &[u8; Frame::LANES], lane: u8) -> u8
-    ensures { λ r. ⌜ r ≡ min (getD (now (last .entry)) lane 0) 16 ⌝ }
+pub(crate) fn taken_from(row: &[u16], lane: u16) -> u16
+    requires { do ⌜ (543 ≤ (← ⟦row.len()⟧)) × (lane < 8) ⌝ }
+    ensures { λ r. ⌜ r ≡ min (getD (postIn (now (row .entry)) .last) lane 0) 16 ⌝ }
 {
-    let serial = cells::last_taken(last, lane);
-    at_most_16(serial.0)
+    let last = last_of(row, lane);
+    at_most_16(last.0)
 }
 
-fn at_most_16(n: u8) -> u8
+fn at_most_16(n: u16) -> u16
     ensures { λ r. ⌜ r ≡ min n 16 ⌝ }
 {
-    if n < Serial::LAST { n } else { Serial::LAST }
+    if n < SERIALS { n } else { SERIALS }
+}
+
+fn last_of(row: &[u16], lane: u16) -> SerialCell
+    requires { do ⌜ (543 ≤ (← ⟦row.len()⟧)) × (lane < 8) ⌝ }
+    ensures { λ r. ⌜ r .0 ≡ lastOf (postIn (now (row .entry))) lane ⌝ }
+{
+    SerialCell(row[LAST + (lane as usize)])
+}
+
+pub(crate) fn known_at(row: &[u16], lane: u16) -> SerialCell
+    requires { do ⌜ (543 ≤ (← ⟦row.len()⟧)) × (lane < 8) ⌝ }
+    ensures { λ r. ⌜ r .0 ≡ getD (knownIn (now (row .entry))) lane 0 ⌝ }
+{
+    SerialCell(row[KNOWN + (lane as usize)])
+}
+
+pub(crate) fn stamp_of(row: &[u16], place: u16) -> Stamp
+    requires { do ⌜ (543 ≤ (← ⟦row.len()⟧)) × (place < 128) ⌝ }
+    ensures { λ r. ⌜ r .0 ≡ getD (postIn (now (row .entry)) .stamps) place 0 ⌝ }
+{
+    Stamp(row[STAMPS + (place as usize)])
 }

@@ -1,146 +1,95 @@
-// The judgement of a post's record, refusal 12. The contract of `refusal` cites specs/Judgement.antt.
-use cells::PLACES;
+// The judgement of a post's record in its row, refusal 12. A good row then knows what its log makes known, so that no later
+// step looks at the whole log again. The contract of `refusal` cites specs/Judgement.antt and specs/OnRows.antt, those of its
+// parts specs/Parts.antt.
+mod log;
+mod orders;
+
 use frame::Frame;
-use frame::Serial;
-use frame::Stamp;
-use post::Post;
+use row::SerialCell;
 ghost use mathlib.Core.Path.{_≡_};
 ghost use mathlib.Core.Bool.{not, _&&_, _||_};
-ghost use Prim.Native.Nat.{ℕ, _+_, _-_, _<_, _≤_, min};
-ghost use lib.Dec.{ltb, eqb};
-ghost use lib.ListN.{getD};
+ghost use Prim.Native.Nat.{ℕ, _≤_};
+ghost use lib.Dec.{ltb};
+ghost use lib.ListN.{length, getD};
 ghost use Rattle.frame.specs.Lanes.{anyBelow};
-ghost use Rattle.cells.specs.Sets.{hasLane};
-ghost use Rattle.judge.specs.Judgement.{recordRefusal};
-ghost use Rattle.judge.specs.Parts.{takenIn, badOrderIn, badLaneIn, badUsedIn, badUnusedIn, badLoggedIn};
+ghost use Rattle.cells.specs.Sets.{hasLane, roleAstray};
+ghost use Rattle.row.specs.Rows.{postIn, knownIn};
+ghost use Rattle.judge.specs.OnRows.{rowRefusal, judgedKnown};
+ghost use Rattle.judge.specs.Parts.{badNumbers};
 
 // 12 for a bad record, or 0.
-pub fn refusal(p: Post) -> u8
-    ensures { λ r. ⌜ r ≡ recordRefusal p ⌝ }
+pub fn refusal(row: &mut [u16]) -> u8
+    ensures { λ r. ⌜ r ≡ rowRefusal (now (row .entry)) ⌝ }
+    ensures post { λ _. ⌜ postIn (now (row .exit)) ≡ postIn (now (row .entry)) ⌝ }
+    ensures known { λ _. ⌜ knownIn (now (row .exit)) ≡ judgedKnown (now (row .entry)) ⌝ }
 {
-    let last = cells::last_taken(&p.last, p.lane);
-    let own = !(p.serial.0 == last.0);
-    let numbers = (Frame::LAST_LANE < p.lane)
-        | (Serial::LAST < p.serial.0)
-        | (Post::PLACES < p.logged)
-        | bad_last(&p.last);
-    let bad = numbers | bad_roles(p.posts, p.sources, p.dests) | own;
-    let orders = bad_orders(&p.last, &p.stamps, &p.words);
-    cells::pick(bad | orders | bad_log(&p.last, &p.log, p.logged), 12, 0)
+    if row.len() < row::LENGTH {
+        return 12;
+    }
+    let n = log::at_most_128(row::logged(row));
+    let numbers = bad_numbers(row);
+    let orders = orders::bad_orders(&row[6..14], &row[158..286], &row[286..414]);
+    if numbers | orders | log::bad_unused(&row[414..542], n) {
+        return 12;
+    }
+    let mut known: [u16; Frame::LANES] = [0; Frame::LANES];
+    if log::bad_used(&row[6..14], &row[414..542], n, &mut known) {
+        return 12;
+    }
+    learn(row, &known);
+    0
+}
+
+// A number outside its range, a role at a lane without a post, or an own serial other than the last taken from its lane.
+fn bad_numbers(row: &[u16]) -> bool
+    requires { do ⌜ 543 ≤ (← ⟦row.len()⟧) ⌝ }
+    ensures { λ r. ⌜ r ≡ badNumbers (postIn (now (row .entry))) ⌝ }
+{
+    let lane = row::lane(row);
+    let serial = row::serial(row);
+    let logged = row::logged(row);
+    let own = row::get_in(row, row::LAST, 8, lane as usize);
+    let last = bad_last(&row[6..14]);
+    let roles = bad_roles(row::posts(row), row::sources(row), row::dests(row));
+    (7 < lane) | (16 < serial.0) | (128 < logged) | last | roles | !(serial.0 == own)
 }
 
 // A last serial over 16.
-fn bad_last(last: &[u8; Frame::LANES]) -> bool
+fn bad_last(last: &[u16]) -> bool
+    requires { do ⌜ 8 ≤ (← ⟦last.len()⟧) ⌝ }
     ensures { λ r. ⌜ r ≡ anyBelow (λ (i : ℕ). ltb 16 (getD (now (last .entry)) i 0)) 8 ⌝ }
 {
     let mut bad = false;
-    for i in 0..Post::LANES {
-        let serial = cells::last_taken(last, i);
-        bad = bad | (Serial::LAST < serial.0);
+    for i in 0..8usize {
+        bad = bad | (16 < last[i]);
     }
     bad
 }
 
 // A role at a lane without a post.
-fn bad_roles(posts: u8, sources: u8, dests: u8) -> bool
-    ensures { λ r. ⌜ r ≡ anyBelow (λ (i : ℕ). (hasLane sources i || hasLane dests i) && not (hasLane posts i)) 8 ⌝ }
+fn bad_roles(posts: u16, sources: u16, dests: u16) -> bool
+    ensures { λ r. ⌜ r ≡ roleAstray posts sources dests ⌝ }
 {
     let mut bad = false;
-    for i in 0..Post::LANES {
+    for i in 0..8u16 {
         bad = bad | bad_role(posts, sources, dests, i);
     }
     bad
 }
 
-fn bad_role(posts: u8, sources: u8, dests: u8, i: u8) -> bool
+fn bad_role(posts: u16, sources: u16, dests: u16, i: u16) -> bool
     ensures { λ r. ⌜ r ≡ ((hasLane sources i || hasLane dests i) && not (hasLane posts i)) ⌝ }
 {
     (cells::has(sources, i) | cells::has(dests, i)) & !cells::has(posts, i)
 }
 
-// An order missing up to the last serial taken, or kept beyond it.
-fn bad_orders<'a>(
-    last: &'a [u8; Frame::LANES],
-    stamps: &'a [u16; PLACES],
-    words: &'a [u16; PLACES],
-) -> bool
-    ensures { λ r. ⌜ r ≡ anyBelow (badOrderIn (now (last .entry)) (now (stamps .entry)) (now (words .entry))) 128 ⌝ }
+// The row knows what `known` says.
+fn learn(row: &mut [u16], known: &[u16])
+    requires { do ⌜ (543 ≤ (← ⟦row.len()⟧)) × (length (now known) ≡ 8) ⌝ }
+    ensures { λ _. ⌜ postIn (now (row .exit)) ≡ postIn (now (row .entry)) ⌝ }
+    ensures known { λ _. ⌜ knownIn (now (row .exit)) ≡ now (known .entry) ⌝ }
 {
-    let mut bad = false;
-    for lane in 0..Post::LANES {
-        bad = bad | bad_lane(lane, cells::last_taken(last, lane), stamps, words);
+    for lane in 0..8u16 {
+        row::put_known(row, lane, SerialCell(known[lane as usize]));
     }
-    bad
-}
-
-fn bad_lane<'a>(lane: u8, last: Serial, stamps: &'a [u16; PLACES], words: &'a [u16; PLACES]) -> bool
-    requires { ⌜ lane < 8 ⌝ }
-    ensures { λ r. ⌜ r ≡ anyBelow (badLaneIn (last .0) (now (stamps .entry)) (now (words .entry)) lane) 16 ⌝ }
-{
-    let mut bad = false;
-    for k in 0..Serial::LAST {
-        let place = (lane * Serial::LAST + k) as usize;
-        bad = bad
-            | bad_order(
-                k < last.0,
-                cells::stamp_at(stamps, place),
-                cells::word_at(words, place),
-            );
-    }
-    bad
-}
-
-fn bad_order(taken: bool, stamp: Stamp, word: u16) -> bool
-    ensures { λ r. ⌜ r ≡ ((taken && eqb (stamp .0) 0) || (not taken && (not (eqb (stamp .0) 0) || not (eqb word 0)))) ⌝ }
-{
-    (taken & (stamp.0 == 0)) | (!taken & (!(stamp.0 == 0) | !(word == 0)))
-}
-
-// A log that repeats an order or has one not taken, or something past its end.
-fn bad_log<'a>(last: &'a [u8; Frame::LANES], log: &'a [u8; PLACES], logged: u8) -> bool
-    ensures { λ r. ⌜ r ≡ anyBelow (badLoggedIn (now (last .entry)) (now (log .entry)) logged) 128 ⌝ }
-{
-    let n = at_most_128(logged);
-    bad_used(last, log, n) | bad_unused(log, n)
-}
-
-fn at_most_128(n: u8) -> u8
-    ensures { λ r. ⌜ r ≡ min n 128 ⌝ }
-{
-    if n < Post::PLACES { n } else { Post::PLACES }
-}
-
-fn bad_used<'a>(last: &'a [u8; Frame::LANES], log: &'a [u8; PLACES], n: u8) -> bool
-    ensures { λ r. ⌜ r ≡ anyBelow (badUsedIn (now (last .entry)) (now (log .entry))) n ⌝ }
-{
-    let mut bad = false;
-    let mut marks: [u8; PLACES] = [0; PLACES];
-    for k in 0..n {
-        let place = cells::byte_at(log, k as usize);
-        let mark = cells::byte_at(&marks, place as usize);
-        bad = bad | (!(mark == 0) | ((Post::PLACES <= place) | !taken(last, place)));
-        cells::put_byte_at(&mut marks, place as usize, 1);
-    }
-    bad
-}
-
-// Whether the order at a place is taken.
-fn taken(last: &[u8; Frame::LANES], place: u8) -> bool
-    ensures { λ r. ⌜ r ≡ takenIn (now (last .entry)) place ⌝ }
-{
-    let serial = cells::last_taken(last, place / Serial::LAST);
-    place % Serial::LAST < serial.0
-}
-
-fn bad_unused(log: &[u8; PLACES], n: u8) -> bool
-    requires { ⌜ n ≤ 128 ⌝ }
-    ensures { λ r. ⌜ r ≡ anyBelow (λ (k : ℕ). badUnusedIn (now (log .entry)) (n + k)) (128 - n) ⌝ }
-{
-    let mut bad = false;
-    let mut k = n as usize;
-    while k < PLACES {
-        bad = bad | !(cells::byte_at(log, k) == 0);
-        k = k + 1;
-    }
-    bad
 }

@@ -1,37 +1,25 @@
--- The flat arrays of a post: places, looking up after a change, raising by a frame's entries, keeping an order. Assumes nothing.
-use mathlib.Core.Path.{_≡_, refl, _∙_}
+-- The flat arrays of a post: looking up after a change, raising by a frame's entries, keeping an order. Assumes nothing.
+use mathlib.Core.Path.{_≡_, refl, sym, ap, _∙_}
 use mathlib.Core.Logic.{_⊎_, inl, inr, _≢_}
-use mathlib.Core.Bool.{cond}
+use mathlib.Core.Bool.{true, cond}
 use mathlib.Core.List.{List}
-use Prim.Native.Nat.{ℕ, zero, suc, _<_, _≤_, max}
+use Prim.Native.Nat.{ℕ, zero, suc, _%_, _<_, _≤_, max}
 use native.Mathlib.Omega.{arith}
 use lib.Dec.{eqb}
 use lib.ListN.{length, getD, set, length-set}
 use lib.Seq.{getD-set-same, getD-set-other, set-out}
-use borrow.Author.Tests.{eq-eqb, ne-eqb}
+use borrow.Author.Tests.{lt-ltb, eq-eqb, ne-eqb}
 use Rattle.frame.specs.Layout.{noEntry}
 use Rattle.frame.specs.declared.Entry.{Entry}
 use Rattle.cells.specs.Tables.{entryPlace, stampUnder, withStamp, orderPlace}
+use Rattle.cells.proofs.Places.{entry-inside, entry-places, entry-unread, entry-unwritten, order-lane, order-serial}
 use Rattle.post.specs.declared.Post.{Post}
 use Rattle.post.specs.Record.{lastOf}
 use Rattle.post.specs.Newest.{raised, raisedBelow}
 use Rattle.post.specs.Taking.{kept}
-use Rattle.deliver.specs.Delivery.{stampAt}
+use Rattle.deliver.specs.Delivery.{isTaken, stampAt}
 use Rattle.judge.specs.Judgement.{wordAt}
 use Rattle.laws.proofs.TestLaws.{same-or-not, below-or-not}
-
--- ---- places
-
--- two entries of the table at one place are one
-pub entry-places : (lane serial lane' serial' : ℕ) → serial < 17 → serial' < 17 → entryPlace lane serial ≡ entryPlace lane' serial'
-    → (lane ≡ lane') × (serial ≡ serial')
-entry-places lane serial lane' serial' h k e = (omega arith, omega arith)
-
--- two orders at one place are one
-pub order-places : (lane serial lane' serial' : ℕ) → 0 < serial → serial ≤ 16 → 0 < serial' → serial' ≤ 16
-    → orderPlace lane serial ≡ orderPlace lane' serial'
-    → (lane ≡ lane') × (serial ≡ serial')
-order-places lane serial lane' serial' a b c d e = (omega arith, omega arith)
 
 -- ---- one number of a list is changed
 
@@ -50,29 +38,33 @@ set-below l i v bound h k j = set-case (λ (x : ℕ). x < bound) l i v j (λ e b
 
 -- ---- one entry of the table is changed
 
--- at its own place there is the new stamp
-pub stamp-same : (table : List ℕ) (lane serial stamp : ℕ) → entryPlace lane serial < length table
-    → stampUnder (withStamp table lane serial stamp) lane serial ≡ stamp
-unfolding stampUnder withStamp
-stamp-same table lane serial stamp h = getD-set-same table (entryPlace lane serial) stamp 0 h
-
--- at another place the old one
-pub stamp-other : (table : List ℕ) (lane serial stamp lane' serial' : ℕ) → entryPlace lane' serial' ≢ entryPlace lane serial
-    → stampUnder (withStamp table lane serial stamp) lane' serial' ≡ stampUnder table lane' serial'
-unfolding stampUnder withStamp
-stamp-other table lane serial stamp lane' serial' n = getD-set-other table (entryPlace lane serial) (entryPlace lane' serial') stamp 0 n
-
--- another lane, or another serial of it
-pub stamp-apart : (table : List ℕ) (lane serial stamp lane' serial' : ℕ) → serial < 17 → serial' < 17 → (lane' ≡ lane → serial' ≢ serial)
-    → stampUnder (withStamp table lane serial stamp) lane' serial' ≡ stampUnder table lane' serial'
-stamp-apart table lane serial stamp lane' serial' h k n =
-    stamp-other table lane serial stamp lane' serial'
-    (λ e. let r = entry-places lane' serial' lane serial k h e in n (r .0) (r .1))
-
 -- the table is as long as before
 pub stamp-length : (table : List ℕ) (lane serial stamp : ℕ) → length (withStamp table lane serial stamp) ≡ length table
 unfolding withStamp
 stamp-length table lane serial stamp = length-set table (entryPlace lane serial) stamp
+
+-- at its own place there is the new stamp
+pub stamp-same : (table : List ℕ) (lane serial stamp : ℕ) → length table ≡ 136 → lane < 8 → serial < 17
+    → stampUnder (withStamp table lane serial stamp) lane serial ≡ stamp
+unfolding stampUnder withStamp
+stamp-same table lane serial stamp l h k =
+    getD-set-same table (entryPlace lane serial) stamp 0 (rw l (entry-inside lane serial h (omega arith)))
+
+-- in another lane, or at another serial of it, the old one
+pub stamp-apart : (table : List ℕ) (lane serial stamp lane' serial' : ℕ) → length table ≡ 136 → (lane' ≡ lane → serial' ≢ serial)
+    → stampUnder (withStamp table lane serial stamp) lane' serial' ≡ stampUnder table lane' serial'
+unfolding stampUnder withStamp
+stamp-apart table lane serial stamp lane' serial' l n = go (below-or-not serial 17) (below-or-not serial' 17)
+  where
+    go : (serial < 17) ⊎ (17 ≤ serial) → (serial' < 17) ⊎ (17 ≤ serial')
+        → stampUnder (withStamp table lane serial stamp) lane' serial' ≡ stampUnder table lane' serial'
+    go (inl a) (inl b) =
+        getD-set-other table (entryPlace lane serial) (entryPlace lane' serial') stamp 0
+        (λ e. let r = entry-places lane' serial' lane serial (omega arith) (omega arith) e in n (r .0) (r .1))
+    go (inl a) (inr b) =
+        entry-unread (withStamp table lane serial stamp) lane' serial' (stamp-length table lane serial stamp ∙ l) (omega arith)
+        ∙ sym (entry-unread table lane' serial' l (omega arith))
+    go (inr a) b = ap (λ (t : List ℕ). stampUnder t lane' serial') (entry-unwritten table lane serial stamp l (omega arith))
 
 -- all stamps stay below a bound
 pub stamp-below : (table : List ℕ) (lane serial stamp bound : ℕ) → stamp < bound → ((j : ℕ) → getD table j 0 < bound)
@@ -83,18 +75,18 @@ stamp-below table lane serial stamp bound h k = set-below table (entryPlace lane
 -- ---- the table is raised
 
 -- by an entry, at its own place
-pub raised-same : (table : List ℕ) (lane : ℕ) (e : Entry) → entryPlace lane (e .serial .0) < length table
+pub raised-same : (table : List ℕ) (lane : ℕ) (e : Entry) → length table ≡ 136 → lane < 8 → e .serial .0 < 17
     → stampUnder (raised table lane e) lane (e .serial .0) ≡ max (stampUnder table lane (e .serial .0)) (e .stamp .0)
 unfolding raised
-raised-same table lane e h =
-    stamp-same table lane (e .serial .0) (max (stampUnder table lane (e .serial .0)) (e .stamp .0)) h
+raised-same table lane e l h k =
+    stamp-same table lane (e .serial .0) (max (stampUnder table lane (e .serial .0)) (e .stamp .0)) l h k
 
 -- and at another
-pub raised-other : (table : List ℕ) (lane : ℕ) (e : Entry) (lane' serial' : ℕ) → entryPlace lane' serial' ≢ entryPlace lane (e .serial .0)
+pub raised-apart : (table : List ℕ) (lane : ℕ) (e : Entry) (lane' serial' : ℕ) → length table ≡ 136 → (lane' ≡ lane → serial' ≢ e .serial .0)
     → stampUnder (raised table lane e) lane' serial' ≡ stampUnder table lane' serial'
 unfolding raised
-raised-other table lane e lane' serial' n =
-    stamp-other table lane (e .serial .0) (max (stampUnder table lane (e .serial .0)) (e .stamp .0)) lane' serial' n
+raised-apart table lane e lane' serial' l n =
+    stamp-apart table lane (e .serial .0) (max (stampUnder table lane (e .serial .0)) (e .stamp .0)) lane' serial' l n
 
 -- raising keeps the table's length
 pub raised-length : (table : List ℕ) (lane : ℕ) (e : Entry) → length (raised table lane e) ≡ length table
@@ -126,14 +118,14 @@ abbrev pub raisedTo : ℕ → Entry → ℕ → ℕ
 raisedTo old e serial = cond (eqb (e .serial .0) serial) (max old (e .stamp .0)) old
 
 -- one entry raises its lane at its serial, and nowhere else
-raised-lane : (table : List ℕ) (lane : ℕ) (e : Entry) (serial : ℕ) → length table ≡ 136 → e .serial .0 ≤ 16 → lane < 8 → serial < 17
+raised-lane : (table : List ℕ) (lane : ℕ) (e : Entry) (serial : ℕ) → length table ≡ 136 → lane < 8 → serial < 17
     → stampUnder (raised table lane e) lane serial ≡ raisedTo (stampUnder table lane serial) e serial
-raised-lane table lane e serial l h k s = go (same-or-not (e .serial .0) serial)
+raised-lane table lane e serial l h k = go (same-or-not (e .serial .0) serial)
   where
     go : (e .serial .0 ≡ serial) ⊎ (e .serial .0 ≢ serial)
         → stampUnder (raised table lane e) lane serial ≡ raisedTo (stampUnder table lane serial) e serial
-    go (inl q) = rw (eq-eqb (e .serial .0) serial q, ← q) (raised-same table lane e (omega arith))
-    go (inr q) = rw (ne-eqb (e .serial .0) serial q) (raised-other table lane e lane serial (λ w. q (omega arith)))
+    go (inl q) = rw (eq-eqb (e .serial .0) serial q, ← q) (raised-same table lane e l h (omega arith))
+    go (inr q) = rw (ne-eqb (e .serial .0) serial q) (raised-apart table lane e lane serial l (λ a b. q (sym b)))
 
 -- raising by entries keeps the table's length
 pub all-raised-length : (table : List ℕ) (entries : List Entry) (n : ℕ) → length (raisedBelow table entries n) ≡ length table
@@ -164,24 +156,26 @@ all-raised-under table entries (suc n) bound h k =
     raised-under (raisedBelow table entries n) n (getD entries n noEntry) bound (h n) (all-raised-under table entries n bound h k)
 
 -- a lane whose entry has not been looked at
-all-raised-above : (table : List ℕ) (entries : List Entry) (n lane serial : ℕ) → ((i : ℕ) → i < 8 → getD entries i noEntry .serial .0 ≤ 16)
-    → n ≤ lane → lane < 8 → serial < 17
+all-raised-above : (table : List ℕ) (entries : List Entry) (n lane serial : ℕ) → length table ≡ 136 → n ≤ lane
     → stampUnder (raisedBelow table entries n) lane serial ≡ stampUnder table lane serial
 unfolding raisedBelow
-all-raised-above table entries zero lane serial h k l s = refl
-all-raised-above table entries (suc n) lane serial h k l s =
-    raised-other (raisedBelow table entries n) n (getD entries n noEntry) lane serial (λ q. omega (arith, h n (omega arith)))
-    ∙ all-raised-above table entries n lane serial h (omega arith) l s
+all-raised-above table entries zero lane serial t k = refl
+all-raised-above table entries (suc n) lane serial t k =
+    raised-apart (raisedBelow table entries n) n (getD entries n noEntry) lane serial (all-raised-length table entries n ∙ t)
+    (λ e. absurd (omega arith))
+    ∙ all-raised-above table entries n lane serial t (omega arith)
 
 -- a lane whose entry has been looked at
-all-raised-below : (table : List ℕ) (entries : List Entry) (n lane serial : ℕ) → length table ≡ 136
-    → ((i : ℕ) → i < 8 → getD entries i noEntry .serial .0 ≤ 16) → n ≤ 8 → lane < n → serial < 17
+all-raised-below : (table : List ℕ) (entries : List Entry) (n lane serial : ℕ) → length table ≡ 136 → n ≤ 8 → lane < n → serial < 17
     → stampUnder (raisedBelow table entries n) lane serial ≡ raisedTo (stampUnder table lane serial) (getD entries lane noEntry) serial
 unfolding raisedBelow
-all-raised-below table entries zero lane serial t h k l s = absurd (omega arith)
-all-raised-below table entries (suc n) lane serial t h k l s =
-    go (same-or-not lane n) (λ m. all-raised-below table entries n lane serial t h (omega arith) m s)
+all-raised-below table entries zero lane serial t k l s = absurd (omega arith)
+all-raised-below table entries (suc n) lane serial t k l s =
+    go (same-or-not lane n) (λ m. all-raised-below table entries n lane serial t (omega arith) m s)
   where
+    long : length (raisedBelow table entries n) ≡ 136
+    long = all-raised-length table entries n ∙ t
+
     go : (lane ≡ n) ⊎ (lane ≢ n)
         → (lane < n → stampUnder (raisedBelow table entries n) lane serial ≡ raisedTo (stampUnder table lane serial) (getD entries lane noEntry) serial)
         → stampUnder (raised (raisedBelow table entries n) n (getD entries n noEntry)) lane serial
@@ -189,20 +183,24 @@ all-raised-below table entries (suc n) lane serial t h k l s =
     go (inl e) ih =
         rw (
           e,
-          raised-lane (raisedBelow table entries n) n (getD entries n noEntry) serial (all-raised-length table entries n ∙ t) (h n (omega arith)) (omega arith) s,
-          all-raised-above table entries n n serial h (omega arith) (omega arith) s,
+          raised-lane (raisedBelow table entries n) n (getD entries n noEntry) serial long (omega arith) s,
+          all-raised-above table entries n n serial t (omega arith),
         )
     go (inr e) ih =
-        raised-other (raisedBelow table entries n) n (getD entries n noEntry) lane serial (λ q. omega (arith, h n (omega arith)))
-        ∙ ih (omega arith)
+        raised-apart (raisedBelow table entries n) n (getD entries n noEntry) lane serial long (λ q. absurd (e q)) ∙ ih (omega arith)
 
 -- after raising by all entries: the larger of the old stamp and the frame's, if the frame's entry of that lane has this serial, else the old one
-pub all-raised : (table : List ℕ) (entries : List Entry) (lane serial : ℕ) → length table ≡ 136
-    → ((i : ℕ) → i < 8 → getD entries i noEntry .serial .0 ≤ 16) → lane < 8 → serial < 17
+pub all-raised : (table : List ℕ) (entries : List Entry) (lane serial : ℕ) → length table ≡ 136 → lane < 8 → serial < 17
     → stampUnder (raisedBelow table entries 8) lane serial ≡ raisedTo (stampUnder table lane serial) (getD entries lane noEntry) serial
-all-raised table entries lane serial t h l s = all-raised-below table entries 8 lane serial t h (omega arith) l s
+all-raised table entries lane serial t l s = all-raised-below table entries 8 lane serial t (omega arith) l s
 
 -- ---- an order is kept
+
+-- an order up to the last taken from its lane is taken
+pub order-taken : (p : Post) (q n : ℕ) → 0 < n → n ≤ 16 → n ≤ lastOf p q → isTaken p (orderPlace q n) ≡ true
+order-taken p q n a b h =
+    let serial = order-serial q n a b in
+    rw (order-lane q n a b) (lt-ltb (orderPlace q n % 16) (lastOf p q) (omega arith))
 
 -- "last taken from q becomes n"
 pub kept-last-same : (p : Post) (q n stamp word : ℕ) → length (p .last) ≡ 8 → q < 8 → lastOf (kept p q n stamp word) q ≡ n

@@ -3,19 +3,20 @@ use mathlib.Core.Path.{_≡_, sym, _∙_}
 use mathlib.Core.List.{List}
 use mathlib.Core.Logic.{_⊎_, inl, inr, _≢_}
 use mathlib.Core.Bool.{true, false}
-use Prim.Native.Nat.{ℕ, _+_, _-_, _/_, _%_, _<_, _≤_}
+use Prim.Native.Nat.{ℕ, _+_, _/_, _%_, _<_, _≤_}
 use native.Mathlib.Omega.{arith}
 use lib.Dec.{ltb}
 use lib.ListN.{length, getD, length-set}
 use borrow.Author.Tests.{lt-ltb, le-ltb}
 use Rattle.cells.specs.Tables.{orderPlace}
+use Rattle.cells.proofs.Places.{order-place, order-inside}
 use Rattle.post.specs.declared.Post.{Post}
 use Rattle.post.specs.Record.{lastOf, withClock}
 use Rattle.post.specs.Taking.{kept}
 use Rattle.deliver.specs.Delivery.{isTaken, stampAt}
 use Rattle.judge.specs.Judgement.{wordAt, loggedAt}
 use Rattle.laws.proofs.TestLaws.{same-or-not, below-or-not, not-both}
-use Rattle.laws.proofs.TableLaws.{set-below, kept-last-same, kept-last-other, kept-stamp-same, kept-stamp-other, kept-word-other}
+use Rattle.laws.proofs.TableLaws.{set-below, order-taken, kept-last-same, kept-last-other, kept-stamp-same, kept-stamp-other, kept-word-other}
 use Rattle.laws.proofs.Valid.{Shaped, Valid}
 
 -- ---- another clock and table
@@ -81,9 +82,7 @@ module _ (p : Post) (q n stamp word : ℕ) (s : length (p .last) ≡ 8) (h : q <
   -- the order is taken now
   pub kept-taken-same : n ≤ 16 → isTaken (kept p q n stamp word) (orderPlace q n) ≡ true
   kept-taken-same b =
-      let lane : orderPlace q n / 16 ≡ q = omega arith in
-      let serial : orderPlace q n % 16 ≡ n - 1 = omega arith in
-      rw (lane, serial, kept-last-same p q n stamp word s h) (lt-ltb (n - 1) n (omega arith))
+      order-taken (kept p q n stamp word) q n (omega arith) b (omega (arith, kept-last-same p q n stamp word s h))
 
   -- and the others as before
   pub kept-taken-other : n ≤ 16 → (place : ℕ) → place ≢ orderPlace q n → isTaken (kept p q n stamp word) place ≡ isTaken p place
@@ -97,7 +96,7 @@ module _ (p : Post) (q n stamp word : ℕ) (s : length (p .last) ≡ 8) (h : q <
           pick (inr k) = le-ltb a m (omega arith) ∙ sym (le-ltb a l k)
 
       elsewhere : place / 16 ≡ q → place % 16 ≢ lastOf p q
-      elsewhere e k = d (omega arith)
+      elsewhere e k = d (omega (arith, order-place q n (omega arith) b))
 
       go : (place / 16 ≡ q) ⊎ (place / 16 ≢ q) → isTaken (kept p q n stamp word) place ≡ isTaken p place
       go (inl e) =
@@ -132,7 +131,7 @@ kept-valid p clock serial table q n stamp word s v h next b c d e f = record {
     x = kept w q n stamp word
 
     small : orderPlace q n < 128
-    small = omega arith
+    small = order-inside q n h (omega arith) b
 
     few : (i : ℕ) → i < 8 → (i ≡ q) ⊎ (i ≢ q) → lastOf x i ≤ 16
     few i l (inl k) = rw k (omega (arith, kept-last-same w q n stamp word (s .last) h))

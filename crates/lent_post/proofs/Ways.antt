@@ -12,7 +12,7 @@ use Rattle.single.specs.declared.Heard.{Heard}
 use Rattle.single.specs.Single.{freshRefusal, freshSingly, orderSingly, hearSingly}
 use Rattle.lent_post.specs.declared.Made.{Made}
 use Rattle.lent_post.specs.declared.Stepped.{Stepped}
-use Rattle.lent_post.specs.Told.{orderTold, hearTold}
+use Rattle.told.specs.Told.{orderTold, hearTold}
 use Rattle.lent_post.specs.Lent.{freshKept, lentFresh, lentOrder, lentHear}
 
 -- the number that `single::fresh` gives is the refusal's

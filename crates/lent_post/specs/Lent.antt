@@ -9,7 +9,7 @@ use Rattle.post.specs.Record.{freshPost}
 use Rattle.single.specs.Single.{freshRefusal, orderSingly, hearSingly}
 use Rattle.lent_post.specs.declared.Made.{Made}
 use Rattle.lent_post.specs.declared.Stepped.{Stepped}
-use Rattle.lent_post.specs.Told.{orderTold, hearTold}
+use Rattle.told.specs.Told.{orderTold, hearTold}
 
 -- the record after a fresh post was asked for: a refusal (12, 21) leaves it
 unfoldable pub freshKept : Post → ℕ → ℕ → ℕ → ℕ → Post

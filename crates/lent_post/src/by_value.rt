@@ -1,11 +1,10 @@
 // The steps of `single` by value, with the answer as one number: specs/Lent.antt.
 use crate::Made;
 use crate::Stepped;
-use crate::told::beacon_number;
-use crate::told::hear_told;
-use crate::told::order_told;
 use post::Post;
+use steps::BeaconAnswer;
 ghost use mathlib.Core.Path.{_≡_};
+ghost use Rattle.steps.specs.Answers.{beaconNumber};
 ghost use Rattle.single.specs.Single.{orderBuffer, hearBuffer, beaconRefusalSingly, beaconBuffer};
 ghost use Rattle.lent_post.specs.Lent.{lentFresh, lentOrder, lentHear};
 
@@ -35,7 +34,7 @@ pub(crate) fn order(p: Post, word: u16, buffer: &mut [u8]) -> Stepped
     let answer = sent.answer;
     let after = sent.post;
     Stepped {
-        answer: order_told(answer),
+        answer: told::order_told(answer),
         post: after,
     }
 }
@@ -47,7 +46,7 @@ pub(crate) fn hear(p: Post, frame: &[u8], buffer: &mut [u8]) -> Stepped
     let answer = heard.answer;
     let after = heard.post;
     Stepped {
-        answer: hear_told(answer),
+        answer: told::hear_told(answer),
         post: after,
     }
 }
@@ -57,4 +56,14 @@ pub(crate) fn beacon(p: Post, buffer: &mut [u8]) -> u8
 {
     let answer = single::beacon(p, buffer);
     beacon_number(answer)
+}
+
+// The refusal's number, or 0.
+fn beacon_number(answer: BeaconAnswer) -> u8
+    ensures { λ r. ⌜ r ≡ beaconNumber answer ⌝ }
+{
+    match answer {
+        BeaconAnswer::Sent => 0,
+        BeaconAnswer::Refused(number) => number,
+    }
 }

@@ -1,13 +1,12 @@
 // A post's record lent by the host, who finds it brought up to date; for C and Rust. Each function takes the record out, has
 // the step by value run on it, and stores the post that the step leaves: a refusal leaves record and buffer as they were.
-// The contracts cite `single`'s specs/Single.antt, and specs/Told.antt for the answer as one number.
+// The contracts cite `single`'s specs/Single.antt, and `told`'s specs/Told.antt for the answer as one number.
 mod by_value;
-mod told;
 
 use post::Post;
 ghost use mathlib.Core.Path.{_≡_};
 ghost use Rattle.single.specs.Single.{freshRefusal, orderSingly, orderBuffer, hearSingly, hearBuffer, beaconRefusalSingly, beaconBuffer};
-ghost use Rattle.lent_post.specs.Told.{orderTold, hearTold};
+ghost use Rattle.told.specs.Told.{orderTold, hearTold};
 ghost use Rattle.lent_post.specs.Lent.{freshKept};
 
 // The refusal's number or 0, and the record after it.

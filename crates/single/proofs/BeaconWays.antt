@@ -7,7 +7,6 @@ use native.Mathlib.Omega.{arith}
 use lib.Dec.{eqb}
 use lib.ListN.{length}
 use borrow.Author.Tests.{ne-eqb, eqb-true, eqb-false}
-use Rattle.frame.specs.ReadWrite.{written}
 use Rattle.frame.specs.Layout.{noFrame}
 use Rattle.frame.proofs.Laws.{not-32, is-32}
 use Rattle.post.specs.declared.Post.{Post}
@@ -17,6 +16,7 @@ use Rattle.steps.specs.Refusals.{beaconRefusal}
 use Rattle.steps.specs.Steps.{beaconStep}
 use Rattle.steps.specs.declared.BeaconAnswer as beacons
 use Rattle.steps.specs.declared.Beaconed.{Beaconed}
+use Rattle.single.specs.Buffer.{broadcastInto}
 use Rattle.single.specs.Single.{beaconRefusalSingly, beaconSingly, beaconBuffer}
 use Rattle.single.proofs.Broadcasts.{beacon-sendable}
 use Rattle.single.proofs.Judged.{record-bad, record-good, written-whole}
@@ -42,40 +42,20 @@ beacon-judged : (p : Post) (buffer : List ℕ) (n : ℕ) → length buffer ≡ 3
 unfolding beaconRefusalSingly
 beacon-judged p buffer n l e z = is-32 buffer (cond (badRecord p) 12 (beaconRefusal p)) l ∙ rw (record-good p n e z)
 
--- a step's frame tells whether it was refused
-beacon-sent : (p : Post) → (beaconStep p .frame .kind ≡ 0 → ⊥)
-    → (beaconRefusal p ≡ 0) × (beaconStep p ≡ record { answer = beacons.the-variants.Sent; frame = beaconFrame p })
-unfolding beaconStep
-beacon-sent p h = go (eqb (beaconRefusal p) 0) refl
-  where
-    go : (b : Bool) → eqb (beaconRefusal p) 0 ≡ b
-        → (beaconRefusal p ≡ 0) × (beaconStep p ≡ record { answer = beacons.the-variants.Sent; frame = beaconFrame p })
-    go true e = (eqb-true (beaconRefusal p) 0 e, rw e)
-    go false e = absurd (h (rw e))
-
-beacon-silent : (p : Post) → beaconStep p .frame .kind ≡ 0
-    → (beaconRefusal p ≡ 0 → ⊥) × (beaconStep p ≡ record { answer = beacons.the-variants.Refused (beaconRefusal p); frame = noFrame })
-unfolding beaconStep
-beacon-silent p h = go (eqb (beaconRefusal p) 0) refl
-  where
-    go : (b : Bool) → eqb (beaconRefusal p) 0 ≡ b
-        → (beaconRefusal p ≡ 0 → ⊥) × (beaconStep p ≡ record { answer = beacons.the-variants.Refused (beaconRefusal p); frame = noFrame })
-    go true e = absurd (let t : _≡_ {A = ℕ} 2 0 = rw e at h in omega arith)
-    go false e = (eqb-false (beaconRefusal p) 0 e, rw e)
-
-pub beacon-writes : (p : Post) (buffer : List ℕ) (n : ℕ) (d : Beaconed) (exit : List ℕ) → length buffer ≡ 32 → n ≡ recordRefusal p → n ≡ 0
-    → d ≡ beaconStep p → (d .frame .kind ≡ 0 → ⊥) → exit ≡ written buffer (d .frame)
+-- the step runs, and the beacon goes into the buffer
+pub beacon-sends : (p : Post) (buffer : List ℕ) (n : ℕ) (d : Beaconed) (exit : List ℕ) → length buffer ≡ 32 → n ≡ recordRefusal p → n ≡ 0
+    → d ≡ beaconStep p → exit ≡ broadcastInto buffer (d .frame)
     → (d .answer ≡ beaconSingly p buffer) × (exit ≡ beaconBuffer p buffer)
-unfolding beaconSingly beaconBuffer
-beacon-writes p buffer n d exit l e z ed k ex =
-    let s = beacon-sent p (rw ed at k) in
-    let r : beaconRefusalSingly p buffer ≡ 0 = beacon-judged p buffer n l e z ∙ s .0 in
-    (rw (r, ed, s .1), rw r (ex ∙ rw (ed, s .1) (written-whole buffer (beaconFrame p) l (beacon-sendable p (s .0)))))
-
-pub beacon-passes : (p : Post) (buffer : List ℕ) (n : ℕ) (d : Beaconed) → length buffer ≡ 32 → n ≡ recordRefusal p → n ≡ 0 → d ≡ beaconStep p
-    → d .frame .kind ≡ 0
-    → (d .answer ≡ beaconSingly p buffer) × (buffer ≡ beaconBuffer p buffer)
-beacon-passes p buffer n d l e z ed k =
-    let s = beacon-silent p (rw ed at k) in
-    let r = beacon-refuses p buffer (beaconRefusal p) (beacon-judged p buffer n l e z) (s .0) in
-    (rw (ed, s .1) (r .0), r .1)
+unfolding beaconSingly beaconBuffer beaconStep
+beacon-sends p buffer n d exit l e z ed ex = go (eqb (beaconRefusal p) 0) refl
+  where
+    go : (b : Bool) → eqb (beaconRefusal p) 0 ≡ b → (d .answer ≡ beaconSingly p buffer) × (exit ≡ beaconBuffer p buffer)
+    go true b =
+        let o : beaconRefusal p ≡ 0 = eqb-true (beaconRefusal p) 0 b in
+        let r : beaconRefusalSingly p buffer ≡ 0 = beacon-judged p buffer n l e z ∙ o in
+        let s : d ≡ record { answer = beacons.the-variants.Sent; frame = beaconFrame p } = ed ∙ rw b in
+        (rw (r, s), rw r (ex ∙ rw s (written-whole buffer (beaconFrame p) l (beacon-sendable p o))))
+    go false b =
+        let s : d ≡ record { answer = beacons.the-variants.Refused (beaconRefusal p); frame = noFrame } = ed ∙ rw b in
+        let r = beacon-refuses p buffer (beaconRefusal p) (beacon-judged p buffer n l e z) (eqb-false (beaconRefusal p) 0 b) in
+        (rw s (r .0), ex ∙ rw s (r .1))

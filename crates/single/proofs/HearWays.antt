@@ -11,7 +11,7 @@ use Rattle.frame.specs.declared.Frame.{Frame}
 use Rattle.frame.specs.declared.FrameRead.{FrameRead}
 use Rattle.frame.specs.Layout.{frameOf, bytesOf, noFrame}
 use Rattle.frame.specs.Refusals.{readRefusal, frameRefusal}
-use Rattle.frame.specs.ReadWrite.{readOf, written}
+use Rattle.frame.specs.ReadWrite.{readOf}
 use Rattle.frame.proofs.Laws.{not-32, is-32, readable}
 use Rattle.post.specs.declared.Post.{Post}
 use Rattle.post.specs.Record.{lastOf}
@@ -19,7 +19,8 @@ use Rattle.judge.specs.Judgement.{badRecord, recordRefusal}
 use Rattle.steps.specs.Refusals.{isNext, hearRefusal}
 use Rattle.steps.specs.Steps.{hearTaken, hearOther, hearStep}
 use Rattle.steps.specs.declared.HearAnswer as hearings
-use Rattle.steps.specs.declared.Heard as heard
+use Rattle.steps.specs.Steps as heard
+use Rattle.single.specs.Buffer.{broadcastInto}
 use Rattle.single.specs.Single.{hearRefusalSingly, hearSingly, hearBuffer}
 use Rattle.single.specs.declared.Heard.{Heard}
 use Rattle.single.proofs.Broadcasts.{taken-accepted}
@@ -78,28 +79,6 @@ runs p bytes buffer got n l e z q h =
       judged = is-32 buffer (after6 p bytes) l ∙ rw (eq-eqb (readRefusal bytes) 0 r, record-good p n q h);
     }
 
--- a step's frame tells whether an order was taken
-hear-took : (p : Post) (f : Frame) → (hearStep p f .frame .kind ≡ 0 → ⊥)
-    → (hearRefusal p f ≡ 0) × (isNext f (lastOf p (f .lane)) ≡ true) × (hearStep p f ≡ hearTaken p f)
-unfolding hearStep hearOther
-hear-took p f h = go (eqb (hearRefusal p f) 0) refl (isNext f (lastOf p (f .lane))) refl
-  where
-    go : (b : Bool) → eqb (hearRefusal p f) 0 ≡ b → (t : Bool) → isNext f (lastOf p (f .lane)) ≡ t
-        → (hearRefusal p f ≡ 0) × (isNext f (lastOf p (f .lane)) ≡ true) × (hearStep p f ≡ hearTaken p f)
-    go true e true t = (eqb-true (hearRefusal p f) 0 e, t, rw (e, t))
-    go true e false t = absurd (h (rw (e, t)))
-    go false e t s = absurd (h (rw e))
-
-hear-silent : (p : Post) (f : Frame) → hearStep p f .frame .kind ≡ 0 → (eqb (hearRefusal p f) 0 && isNext f (lastOf p (f .lane))) ≡ false
-unfolding hearStep hearTaken
-hear-silent p f h = go (eqb (hearRefusal p f) 0) refl (isNext f (lastOf p (f .lane))) refl
-  where
-    go : (b : Bool) → eqb (hearRefusal p f) 0 ≡ b → (t : Bool) → isNext f (lastOf p (f .lane)) ≡ t
-        → (eqb (hearRefusal p f) 0 && isNext f (lastOf p (f .lane))) ≡ false
-    go true e true t = absurd (let s : _≡_ {A = ℕ} 1 0 = rw (e, t) at h in omega arith)
-    go true e false t = rw (e, t)
-    go false e t s = rw e
-
 step-refused : (p : Post) (f : Frame) → eqb (hearRefusal p f) 0 ≡ false
     → hearStep p f ≡ record { answer = hearings.the-variants.Refused (hearRefusal p f); post = p; frame = noFrame }
 unfolding hearStep
@@ -116,21 +95,24 @@ hear-answers p bytes buffer j = go (eqb (hearRefusal p (frameOf bytes)) 0) refl
     go true e = rw (j, e)
     go false e = rw (j, e, step-refused p (frameOf bytes) e)
 
-pub hear-writes : (p : Post) (bytes buffer : List ℕ) (f : Frame) (d : heard.Heard) (exit : List ℕ) → Runs p bytes buffer f → length buffer ≡ 32
-    → d ≡ hearStep p f → (d .frame .kind ≡ 0 → ⊥) → exit ≡ written buffer (d .frame)
+-- what the step broadcasts goes into the buffer
+pub hear-sends : (p : Post) (bytes buffer : List ℕ) (f : Frame) (d : heard.Heard) (exit : List ℕ) → Runs p bytes buffer f → length buffer ≡ 32
+    → d ≡ hearStep p f → exit ≡ broadcastInto buffer (d .frame)
     → HearIs p bytes buffer (record { answer = d .answer; post = d .post }) exit
-unfolding hearBuffer
-hear-writes p bytes buffer f d exit r l ed k ex =
-    let e : d ≡ hearStep p (frameOf bytes) = ed ∙ ap (hearStep p) (r .frame) in
-    let s = hear-took p (frameOf bytes) (rw e at k) in
-    let w : written buffer (hearTaken p (frameOf bytes) .frame) ≡ bytesOf (hearTaken p (frameOf bytes) .frame)
-    = written-whole buffer (hearTaken p (frameOf bytes) .frame) l (taken-accepted p (frameOf bytes) (s .0) (s .1) (r .accepted))
-    in
-    (rw e (hear-answers p bytes buffer (r .judged)), rw (r .judged, s .0, s .1) (ex ∙ rw (e, s .2) w))
+unfolding hearBuffer hearStep hearOther hearTaken
+hear-sends p bytes buffer f d exit r l ed ex =
+    (rw e (hear-answers p bytes buffer (r .judged)), rw (r .judged) (go (eqb (hearRefusal p g) 0) refl (isNext g (lastOf p (g .lane))) refl))
+  where
+    g : Frame
+    g = frameOf bytes
 
-pub hear-passes : (p : Post) (bytes buffer : List ℕ) (f : Frame) (d : heard.Heard) → Runs p bytes buffer f → d ≡ hearStep p f → d .frame .kind ≡ 0
-    → HearIs p bytes buffer (record { answer = d .answer; post = d .post }) buffer
-unfolding hearBuffer
-hear-passes p bytes buffer f d r ed k =
-    let e : d ≡ hearStep p (frameOf bytes) = ed ∙ ap (hearStep p) (r .frame) in
-    (rw e (hear-answers p bytes buffer (r .judged)), rw (r .judged, hear-silent p (frameOf bytes) (rw e at k)))
+    e : d ≡ hearStep p g
+    e = ed ∙ ap (hearStep p) (r .frame)
+
+    go : (b : Bool) → eqb (hearRefusal p g) 0 ≡ b → (t : Bool) → isNext g (lastOf p (g .lane)) ≡ t
+        → exit ≡ cond (eqb (hearRefusal p g) 0 && isNext g (lastOf p (g .lane))) (bytesOf (hearTaken p g .frame)) buffer
+    go true b true t =
+        let w = written-whole buffer (hearTaken p g .frame) l (taken-accepted p g (eqb-true (hearRefusal p g) 0 b) t (r .accepted)) in
+        rw (b, t) (ex ∙ rw (e, b, t) w)
+    go true b false t = rw (b, t) (ex ∙ rw (e, b, t))
+    go false b t s = rw b (ex ∙ rw (e, b))

@@ -82,7 +82,7 @@ stamps-fit bytes h (suc (suc (suc (suc (suc (suc zero)))))) = omega (arith, h 27
 stamps-fit bytes h (suc (suc (suc (suc (suc (suc (suc zero))))))) = omega (arith, h 30, h 31)
 stamps-fit bytes h (suc (suc (suc (suc (suc (suc (suc (suc n)))))))) = omega arith
 
-bytes-fit : (bytes : List ℕ) → AreBytes bytes → Typed (frameOf bytes)
+pub bytes-fit : (bytes : List ℕ) → AreBytes bytes → Typed (frameOf bytes)
 unfolding frameOf
 bytes-fit bytes h = record {
   stamp = omega (arith, h 4, h 5);

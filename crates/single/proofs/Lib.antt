@@ -1,6 +1,7 @@
 pub mod Broadcasts
 pub mod Numbers
 pub mod Judged
+pub mod Rows
 pub mod OrderWays
 pub mod BeaconWays
 pub mod HearWays

@@ -1,2 +1,3 @@
 pub mod Single
+pub mod Buffer
 pub mod Lasting

@@ -1,5 +1,6 @@
 // A post run singly: the entries for hosts and firmware. Each judges everything that it is handed, the record too (12),
-// and a refusal leaves post and buffer as they were. The contracts cite specs/Single.antt.
+// and a refusal leaves post and buffer as they were. The record is put into a row, the step runs there, and the row's record
+// is handed back. The contracts cite specs/Single.antt.
 use frame::Frame;
 use post::Post;
 use steps::BeaconAnswer;
@@ -8,6 +9,7 @@ use steps::OrderAnswer;
 ghost use mathlib.Core.Path.{_≡_};
 ghost use Rattle.steps.specs.Answers.{orderNumber, hearNumber, beaconNumber};
 ghost use Rattle.steps.specs.Values.{orderSerial, orderStamp, orderCount, hearCount};
+ghost use Rattle.single.specs.Buffer.{broadcastInto};
 ghost use Rattle.single.specs.Single.{freshSingly, orderRefusalSingly, orderSingly, orderSerialSingly, orderStampSingly, orderCountSingly, orderBuffer, hearRefusalSingly, hearSingly, hearCountSingly, hearBuffer, beaconRefusalSingly, beaconSingly, beaconBuffer};
 
 // A fresh post and 0, or the refusal (12, 21) and a record of zeros.
@@ -33,8 +35,10 @@ pub fn fresh(lane: u8, posts: u8, sources: u8, dests: u8) -> FreshPost
     ensures { λ r. ⌜ r ≡ freshSingly lane posts sources dests ⌝ }
 {
     let post = Post::new(lane, posts, sources, dests);
-    let number = cells::pick(!cells::has(posts, lane), 21, 0);
-    let number = cells::pick(judge::refusal(post) != 0, 12, number);
+    let mut row: [u16; row::LENGTH] = [0; row::LENGTH];
+    post_row::load(&mut row, post);
+    let number = cells::pick(!cells::has(posts as u16, lane as u16), 21, 0);
+    let number = cells::pick(judge::refusal(&mut row) != 0, 12, number);
     if number == 0 {
         FreshPost {
             refusal: 0,
@@ -64,20 +68,20 @@ pub fn order(p: Post, word: u16, buffer: &mut [u8]) -> Ordered
             post: p,
         };
     }
-    let number = judge::refusal(p);
+    let mut row: [u16; row::LENGTH] = [0; row::LENGTH];
+    post_row::load(&mut row, p);
+    let number = judge::refusal(&mut row);
     if number != 0 {
         return Ordered {
             answer: OrderAnswer::Refused(number),
             post: p,
         };
     }
-    let done = steps::order(p, word);
+    let done = steps::order(&mut row, word);
     let answer = done.answer;
-    let post = done.post;
     let sent = done.frame;
-    if sent.kind != 0 {
-        sent.write(buffer);
-    }
+    broadcast(sent, buffer);
+    let post = post_row::store(&row);
     Ordered {
         answer: answer,
         post: post,
@@ -104,21 +108,21 @@ pub fn hear(p: Post, bytes: &[u8], buffer: &mut [u8]) -> Heard
             post: p,
         };
     }
-    let number = judge::refusal(p);
+    let heard = got.frame;
+    let mut row: [u16; row::LENGTH] = [0; row::LENGTH];
+    post_row::load(&mut row, p);
+    let number = judge::refusal(&mut row);
     if number != 0 {
         return Heard {
             answer: HearAnswer::Refused(number),
             post: p,
         };
     }
-    let heard = got.frame;
-    let done = steps::hear(p, heard);
+    let done = steps::hear(&mut row, heard);
     let answer = done.answer;
-    let post = done.post;
     let passed_on = done.frame;
-    if passed_on.kind != 0 {
-        passed_on.write(buffer);
-    }
+    broadcast(passed_on, buffer);
+    let post = post_row::store(&row);
     Heard {
         answer: answer,
         post: post,
@@ -134,15 +138,24 @@ pub fn beacon(p: Post, buffer: &mut [u8]) -> BeaconAnswer
     if buffer.len() != Post::FRAME_LENGTH {
         return BeaconAnswer::Refused(6);
     }
-    let number = judge::refusal(p);
+    let mut row: [u16; row::LENGTH] = [0; row::LENGTH];
+    post_row::load(&mut row, p);
+    let number = judge::refusal(&mut row);
     if number != 0 {
         return BeaconAnswer::Refused(number);
     }
-    let done = steps::beacon(p);
+    let done = steps::beacon(&row);
     let answer = done.answer;
     let frame = done.frame;
-    if frame.kind != 0 {
-        frame.write(buffer);
-    }
+    broadcast(frame, buffer);
     answer
+}
+
+// A broadcast goes into the buffer, if there is one: with none the buffer keeps its bytes.
+fn broadcast(sent: Frame, buffer: &mut [u8])
+    ensures { λ _. ⌜ now (buffer .exit) ≡ broadcastInto (now (buffer .entry)) sent ⌝ }
+{
+    if sent.kind != 0 {
+        sent.write(buffer);
+    }
 }

@@ -1,4 +1,6 @@
 pub mod Passed
-pub mod Ways
-pub mod InPlaceLaws
+pub mod RaiseLaws
+pub mod NewestLaws
 pub mod AnswerLaws
+pub mod Ways
+pub mod KnownSteps

@@ -1,132 +1,54 @@
--- The ways through the steps. Assumes nothing.
+-- The ways through the steps on a row. Assumes nothing.
 use mathlib.Core.Path.{_≡_, refl, sym, ap, _∙_}
-use mathlib.Core.Bool.{Bool, true, false, cond}
-use mathlib.Core.List.{List}
-use Prim.Native.Nat.{ℕ, _+_, _<_, max}
-use borrow.Author.Tests.{eq-eqb, ne-eqb, leb-false}
-use lib.Dec.{eqb}
-use lib.ListN.{set}
+use mathlib.Core.Bool.{Bool, true, false, cond, not, _&&_}
+use mathlib.Core.List.{List, _++_}
+use Prim.Native.Nat.{ℕ, _+_, _/_, _%_, _^_, _<_, _≤_, max}
+use native.Mathlib.Nat.{zero-div}
+use native.Mathlib.Omega.{arith}
+use borrow.Author.Tests.{ltb-true, ltb-false, leb-false, eq-eqb, ne-eqb, not-false}
+use lib.Dec.{ltb, leb, eqb}
+use lib.ListN.{length, getD, take, drop, length-take, length-drop, List·getD-eq-default}
 use Rattle.frame.specs.declared.Entry.{Entry}
 use Rattle.frame.specs.declared.Frame.{Frame}
-use Rattle.frame.specs.declared.Serial.{Serial}
-use Rattle.frame.specs.declared.Stamp.{Stamp}
 use Rattle.frame.specs.Layout.{noFrame}
 use Rattle.cells.specs.Sets.{hasLane}
-use Rattle.cells.specs.Tables.{withStamp, orderPlace}
-use Rattle.post.specs.declared.Head.{Head}
+use Rattle.cells.specs.Tables.{orderPlace}
 use Rattle.post.specs.declared.Post.{Post}
-use Rattle.post.specs.Record.{isSource, lastOf, withClock, withOrders}
-use Rattle.post.specs.Heads.{postOf}
+use Rattle.post.specs.Record.{lastOf, isSource}
 use Rattle.post.specs.Newest.{raisedBelow, newestEntries}
 use Rattle.post.specs.Taking.{kept, ticked, ownTaken, raisedPost, taken}
-use Rattle.deliver.specs.declared.Delivered.{Delivered}
-use Rattle.deliver.specs.Delivery.{delivered, stampAt}
-use Rattle.steps.specs.Refusals.{orderRefusal, isNext, hearRefusal}
-use Rattle.steps.specs.Steps.{orderSent, orderStep, hearTaken, hearOther, hearStep, beaconStep}
-use Rattle.steps.specs.InPlace.{headOf, orderTook, hearTook, passedAnswer, JudgedBy}
-use Rattle.steps.proofs.Passed.{order-passed, hear-passed}
+use Rattle.row.specs.Rows.{part, postIn, knownIn, withTable}
+use Rattle.row.proofs.LentTable.{table-lent}
+use Rattle.deliver.specs.Known.{KnownDelivery, deliveredFrom}
+use Rattle.deliver.specs.OnRows.{deliveredRow}
+use Rattle.deliver.proofs.RowWays.{delivered-whole}
+use Rattle.deliver.proofs.KnownLaws.{at-some}
+use Rattle.frame.specs.Lanes.{anyBelow}
+use Rattle.frame.proofs.Laws.{any-more}
 use Rattle.steps.specs.declared.OrderAnswer as orders
 use Rattle.steps.specs.declared.HearAnswer as hearings
 use Rattle.steps.specs.declared.BeaconAnswer as beacons
-use Rattle.steps.specs.declared.Ordered.{Ordered}
-use Rattle.steps.specs.declared.Heard.{Heard}
 use Rattle.steps.specs.declared.Beaconed.{Beaconed}
+use Rattle.steps.specs.Refusals.{notInYard, orderRefusal, isNext, clockPasses, ownBroadcast, strange, notAbove, beyondOwn, hearRefusal, beaconRefusal}
+use Rattle.steps.specs.Steps.{orderSent, orderStep, hearTaken, otherAnswer, hearOther, hearStep, beaconStep}
+use Rattle.steps.specs.Knowing.{Stepped, stepped, ordersBy, hearTook, passedAnswer, hearsBy}
+use Rattle.steps.specs.Answers.{beaconNumber}
+use Rattle.steps.proofs.AnswerLaws.{OrderAnswers, order-answers, HearAnswers, hear-answers, beacon-number}
+use Rattle.steps.proofs.Passed.{order-passed, hear-passed}
 
--- a post is its numbers and its arrays
-pub same-post : (p : Post) (h : Head) → h ≡ headOf p → postOf h (p .last) (p .table) (p .stamps) (p .words) (p .log) ≡ p
-same-post p h e = rw e
+-- ---- part 1
 
--- three facts that hold for every log
-pub each : {A B C : List ℕ → Type 0} → ((log : List ℕ) → A log × B log × C log)
-    → ((log : List ℕ) → A log) × (((log : List ℕ) → B log) × ((log : List ℕ) → C log))
-each h = (λ log. h log .0, (λ log. h log .1, λ log. h log .2))
+-- the table that was lent is the row's
+pub raised-row : (l m t : List ℕ) (entries : List Entry) → 543 ≤ length l → length t ≡ length (part l 22 136) → m ≡ take 22 l ++ (t ++ drop 136 (drop 22 l))
+    → t ≡ raisedBelow (part l 22 136) entries 8
+    → (postIn m ≡ withTable (postIn l) (raisedBelow (part l 22 136) entries 8)) × (knownIn m ≡ knownIn l)
+unfolding part
+raised-row l m t entries h k e er =
+    let long : length t ≡ 136 = k ∙ simp (length-take, length-drop) (omega arith) in
+    let w = table-lent l m t h long e in
+    (w .0 ∙ ap (withTable (postIn l)) er, w .1)
 
--- ---- order
-
--- what is not refused by 23 and 24 can rise
-pub can-rise : (p : Post) → orderRefusal p ≡ 0 → (p .clock .0 < 65535) × (p .serial .0 < 16)
-can-rise p z =
-    let a = order-passed p z in
-    (leb-false 65535 (p .clock .0) (a .3), leb-false 16 (p .serial .0) (a .2))
-
-pub take-own-is : (p : Post) (word place : ℕ) (table last stamps words : List ℕ) → place ≡ orderPlace (p .lane) (p .serial .0 + 1)
-    → table ≡ withStamp (p .table) (p .lane) (p .serial .0 + 1) (p .clock .0 + 1) → last ≡ set (p .last) (p .lane) (p .serial .0 + 1)
-    → stamps ≡ set (p .stamps) place (p .clock .0 + 1) → words ≡ set (p .words) place word
-    → withOrders (withClock p (p .clock .0 + 1) (p .serial .0 + 1) table) last stamps words ≡ ownTaken p word
-unfolding ownTaken kept ticked
-take-own-is p word place table last stamps words e et el es ew = rw (et, el, es, ew, e)
-
-pub send-frame : (p q : Post) (word : ℕ) (entries : List Entry) → q ≡ ownTaken p word → entries ≡ newestEntries (q .table)
-    → _≡_ {A = Frame}
-    (record { kind = 1; sender = p .lane; lane = p .lane; serial = q .serial; stamp = q .clock; word = word; entries = entries })
-    (orderSent p word .frame)
-unfolding orderSent ownTaken kept ticked
-send-frame p q word entries e en = rw (en, e)
-
-pub order-took : (p q : Post) (word n m : ℕ) (g : Frame) → n ≡ orderRefusal p → n ≡ 0 → m ≡ 0 → q ≡ ownTaken p word → g ≡ orderSent p word .frame
-    → (m ≡ orderRefusal p) × (q ≡ orderTook p word) × (g ≡ orderStep p word .frame)
-unfolding orderStep orderTook
-order-took p q word n m g e z em eq eg =
-    let t : eqb (orderRefusal p) 0 ≡ true = eq-eqb (orderRefusal p) 0 (sym e ∙ z) in
-    (em ∙ sym z ∙ e, rw t eq, rw t eg)
-
-pub order-stays : (p : Post) (word n : ℕ) → n ≡ orderRefusal p → (n ≡ 0 → ⊥)
-    → (n ≡ orderRefusal p) × (p ≡ orderTook p word) × (noFrame ≡ orderStep p word .frame)
-unfolding orderStep orderTook
-order-stays p word n e h =
-    let t : eqb (orderRefusal p) 0 ≡ false = rw e at (ne-eqb n 0 h) in
-    (e, rw t, rw t)
-
--- an order by value is one in place, delivered
-pub order-sends : (p p′ q : Post) (word n : ℕ) (g : Frame) (d : Delivered) → p′ ≡ p → n ≡ orderRefusal p′ → n ≡ 0 → q ≡ orderTook p′ word
-    → g ≡ orderStep p′ word .frame → d ≡ delivered q
-    → _≡_ {A = Ordered} (record { answer = orders.the-variants.Sent (q .serial) (q .clock) (d .count); post = d .post; frame = g }) (orderStep p word)
-unfolding orderStep orderSent orderTook
-order-sends p p′ q word n g d ep e z eq eg ed =
-    let t : eqb (orderRefusal p) 0 ≡ true = eq-eqb (orderRefusal p) 0 (rw ep at (sym e ∙ z)) in
-    rw (eg, ed, eq, ep, t)
-
-pub order-refused : (p p′ : Post) (word n : ℕ) (g : Frame) → p′ ≡ p → n ≡ orderRefusal p′ → (n ≡ 0 → ⊥) → g ≡ orderStep p′ word .frame
-    → _≡_ {A = Ordered} (record { answer = orders.the-variants.Refused n; post = p; frame = g }) (orderStep p word)
-unfolding orderStep
-order-refused p p′ word n g ep e h eg =
-    let t : eqb (orderRefusal p) 0 ≡ false = rw (e, ep) at (ne-eqb n 0 h) in
-    rw (eg, e, ep, t)
-
--- ---- beacon
-
-pub beacon-sends : (p : Post) (b : Bool) (entries : List Entry) → b ≡ hasLane (p .posts) (p .lane) → b ≡ true
-    → entries ≡ newestEntries (p .table)
-    → _≡_ {A = Beaconed}
-    (record {
-      answer = beacons.the-variants.Sent;
-      frame = record { kind = 2; sender = p .lane; lane = 0; serial = record { 0 = 0 }; stamp = record { 0 = 0 }; word = 0; entries = entries };
-    })
-    (beaconStep p)
-unfolding beaconStep
-beacon-sends p b entries e s en = rw (sym e ∙ s, en)
-
-pub beacon-refused : (p : Post) (b : Bool) (f : Frame) → b ≡ hasLane (p .posts) (p .lane) → b ≡ false → f ≡ noFrame
-    → _≡_ {A = Beaconed} (record { answer = beacons.the-variants.Refused 21; frame = f }) (beaconStep p)
-unfolding beaconStep
-beacon-refused p b f e s q = rw (sym e ∙ s, q)
-
--- ---- hear
-
-pub take-source : (p : Post) (f : Frame) (place : ℕ) (t last stamps words : List ℕ) (b : Bool) (reached : Stamp) (t′ : List ℕ)
-    → place ≡ orderPlace (f .lane) (f .serial .0) → t ≡ raisedBelow (p .table) (f .entries) 8 → last ≡ set (p .last) (f .lane) (f .serial .0)
-    → stamps ≡ set (p .stamps) place (f .stamp .0) → words ≡ set (p .words) place (f .word) → b ≡ hasLane (p .sources) (p .lane) → b ≡ true
-    → reached ≡ record { 0 = max (p .clock .0) (f .stamp .0) } → t′ ≡ withStamp t (p .lane) (p .serial .0) (reached .0 + 1)
-    → withOrders (withClock p (reached .0 + 1) (p .serial .0) t′) last stamps words ≡ taken p f
-unfolding taken ticked kept raisedPost
-take-source p f place t last stamps words b reached t′ e et el es ew eb s er et′ = rw (et′, er, et, el, es, ew, e, sym eb ∙ s)
-
-pub take-other : (p : Post) (f : Frame) (place : ℕ) (t last stamps words : List ℕ) (b : Bool)
-    → place ≡ orderPlace (f .lane) (f .serial .0) → t ≡ raisedBelow (p .table) (f .entries) 8 → last ≡ set (p .last) (f .lane) (f .serial .0)
-    → stamps ≡ set (p .stamps) place (f .stamp .0) → words ≡ set (p .words) place (f .word) → b ≡ hasLane (p .sources) (p .lane) → b ≡ false
-    → withOrders (withClock p (p .clock .0) (p .serial .0) t) last stamps words ≡ taken p f
-unfolding taken ticked kept raisedPost
-take-other p f place t last stamps words b e et el es ew eb s = rw (et, el, es, ew, e, sym eb ∙ s)
+-- ---- part 3
 
 pub taken-lane : (p : Post) (f : Frame) → taken p f .lane ≡ p .lane
 unfolding taken ticked kept raisedPost
@@ -136,84 +58,308 @@ taken-lane p f = go (isSource p (p .lane))
     go true = refl
     go false = refl
 
-pub take-frame : (p q : Post) (f : Frame) (entries : List Entry) → q ≡ taken p f → entries ≡ newestEntries (q .table)
+pub takes-source : (p a b q : Post) (f : Frame) (t : Bool) (serial reached : ℕ) → t ≡ hasLane (p .sources) (p .lane) → t ≡ true
+    → serial ≡ p .serial .0 → reached ≡ max (p .clock .0) (f .stamp .0)
+    → a ≡ withTable p (raisedBelow (p .table) (f .entries) 8) → b ≡ kept a (f .lane) (f .serial .0) (f .stamp .0) (f .word)
+    → q ≡ ticked b serial (reached + 1)
+    → q ≡ taken p f
+unfolding taken raisedPost
+takes-source p a b q f t serial reached et s es er ea eb eq = rw (eq, eb, ea, es, er, sym et ∙ s)
+
+pub takes-other : (p a q : Post) (f : Frame) (t : Bool) → t ≡ hasLane (p .sources) (p .lane) → t ≡ false
+    → a ≡ withTable p (raisedBelow (p .table) (f .entries) 8) → q ≡ kept a (f .lane) (f .serial .0) (f .stamp .0) (f .word)
+    → q ≡ taken p f
+unfolding taken raisedPost
+takes-other p a q f t et s ea eq = rw (eq, ea, sym et ∙ s)
+
+pub takes-frame : (p q : Post) (f : Frame) (lane : ℕ) (entries : List Entry) → lane ≡ p .lane → q ≡ taken p f → entries ≡ newestEntries (q .table)
     → _≡_ {A = Frame}
-    (record { kind = 1; sender = p .lane; lane = f .lane; serial = f .serial; stamp = f .stamp; word = f .word; entries = entries })
+    (record { kind = 1; sender = lane; lane = f .lane; serial = f .serial; stamp = f .stamp; word = f .word; entries = entries })
     (hearTaken p f .frame)
 unfolding hearTaken
-take-frame p q f entries e en =
+takes-frame p q f lane entries el eq en =
     let l : taken p f .lane ≡ p .lane = taken-lane p f in
-    rw (en, e, l)
+    rw (en, eq, l, el)
 
--- the numbers that a hearing is judged by are the post's
-judged-by : (p : Post) (f : Frame) (last : Serial) (place : ℕ) (before : Stamp) (n : ℕ) → last ≡ record { 0 = lastOf p (f .lane) }
-    → place ≡ orderPlace (f .lane) (last .0) → before ≡ record { 0 = stampAt p place }
-    → JudgedBy (headOf p) (last .0) (before .0) f n
-    → n ≡ hearRefusal p f
-judged-by p f last place before n el ep eb e =
-    e (p .last) (p .table) (p .stamps) (p .words) (p .log) (ap (λ (s : Serial). s .0) (sym el)) (rw (← ep) (ap (λ (s : Stamp). s .0) (sym eb)))
+-- ---- 28: a loop that ends with the first that is found
+
+pub some-found : (test : ℕ → Bool) (n i : ℕ) (b : Bool) → i < n → b ≡ test i → b ≡ true → true ≡ anyBelow test n
+some-found test n i b h e t = sym (at-some test n i h (sym e ∙ t))
+
+pub none-so-far : (test : ℕ → Bool) (n : ℕ) (b : Bool) → false ≡ anyBelow test n → b ≡ test n → b ≡ false → false ≡ anyBelow test (n + 1)
+none-so-far test n b p e t = rw t at (any-more test n false b p e)
+
+-- ---- what a row is that is not refused: whole, and of a lane
+
+has-no : (lane : ℕ) → hasLane 0 lane ≡ false
+has-no lane = rw zero-div (go (ltb lane 8))
+  where
+    go : (t : Bool) → (t && eqb (0 % 2) 1) ≡ false
+    go true = refl
+    go false = refl
+
+has-lane : (lanes lane : ℕ) → hasLane lanes lane ≡ true → lane < 8
+has-lane lanes lane e = go (ltb lane 8) refl e
+  where
+    go : (t : Bool) → ltb lane 8 ≡ t → (ltb lane 8 && eqb (lanes / 2 ^ lane % 2) 1) ≡ true → lane < 8
+    go true s e = ltb-true lane 8 s
+    go false s e = absurd (let z : true ≡ false = sym e ∙ rw s in let w : _≡_ {A = ℕ} 0 1 = cc in omega arith)
+
+whole : (l : List ℕ) (lane : ℕ) → hasLane (getD l 542 0) lane ≡ true → 543 ≤ length l
+whole l lane e = go (ltb 542 (length l)) refl
+  where
+    go : (t : Bool) → ltb 542 (length l) ≡ t → 543 ≤ length l
+    go true s = omega (arith, ltb-true 542 (length l) s)
+    go false s =
+        let z : getD l 542 0 ≡ 0 = List·getD-eq-default l 0 {n = 542} (ltb-false 542 (length l) s) in
+        let y : hasLane 0 lane ≡ true = rw z at e in
+        absurd (let w : _≡_ {A = ℕ} 0 1 = cc (has-no lane) in omega arith)
+
+-- a row that nothing refuses is whole, and what is to be taken can be
+abbrev pub CanTake : List ℕ → Frame → Type 0
+CanTake l f =
+    (543 ≤ length l) × (postIn l .lane < 8) × (hasLane (postIn l .sources) (postIn l .lane) ≡ true → max (postIn l .clock .0) (f .stamp .0) < 65535)
+
+pub whole-row : (l : List ℕ) (f : Frame) → hearRefusal (postIn l) f ≡ 0 → (543 ≤ length l) × (postIn l .lane < 8)
+unfolding postIn
+whole-row l f r =
+    let p = postIn l in
+    let y : hasLane (p .posts) (p .lane) ≡ true = not-false (hasLane (p .posts) (p .lane)) (hear-passed p f r .0) in
+    (whole l (p .lane) y, has-lane (p .posts) (p .lane) y)
 
 -- what is not refused by 24 can rise
-pub can-pass : (p : Post) (f : Frame) (last : Serial) (place : ℕ) (before : Stamp) (n : ℕ) (b : Bool) → last ≡ record { 0 = lastOf p (f .lane) }
-    → place ≡ orderPlace (f .lane) (last .0) → before ≡ record { 0 = stampAt p place } → JudgedBy (headOf p) (last .0) (before .0) f n → n ≡ 0
-    → b ≡ isNext f (last .0) → b ≡ true → isSource p (p .lane) ≡ true → max (p .clock .0) (f .stamp .0) < 65535
-can-pass p f last place before n b el ep eb e z t s q =
-    let a = hear-passed p f (sym (judged-by p f last place before n el ep eb e) ∙ z) in
-    let next : isNext f (lastOf p (f .lane)) ≡ true = rw el at (sym t ∙ s) in
-    leb-false 65535 (max (p .clock .0) (f .stamp .0)) (rw (next, q) at (a .1))
+can-pass : (p : Post) (f : Frame) → hearRefusal p f ≡ 0 → isNext f (lastOf p (f .lane)) ≡ true → isSource p (p .lane) ≡ true
+    → max (p .clock .0) (f .stamp .0) < 65535
+can-pass p f r x q =
+    let t : (isNext f (lastOf p (f .lane)) && isSource p (p .lane) && leb 65535 (max (p .clock .0) (f .stamp .0))) ≡ false = hear-passed p f r .1 in
+    leb-false 65535 (max (p .clock .0) (f .stamp .0)) (rw (x, q) at t)
 
-pub hear-took : (p q : Post) (f : Frame) (last : Serial) (place : ℕ) (before : Stamp) (n m : ℕ) (b : Bool) (g : Frame)
-    → last ≡ record { 0 = lastOf p (f .lane) } → place ≡ orderPlace (f .lane) (last .0) → before ≡ record { 0 = stampAt p place }
-    → JudgedBy (headOf p) (last .0) (before .0) f n → n ≡ 0
-    → b ≡ isNext f (last .0) → b ≡ true → m ≡ 0 → q ≡ taken p f → g ≡ hearTaken p f .frame
-    → (m ≡ hearRefusal p f) × (q ≡ hearTook p f) × (g ≡ hearStep p f .frame)
+pub can-take : (l : List ℕ) (f : Frame) (last : ℕ) (t : Bool) → hearRefusal (postIn l) f ≡ 0 → last ≡ lastOf (postIn l) (f .lane) → t ≡ isNext f last → t ≡ true
+    → CanTake l f
+can-take l f last t r el et s =
+    let x : isNext f (lastOf (postIn l) (f .lane)) ≡ true = rw el at (sym et ∙ s) in
+    let w = whole-row l f r in
+    (w .0, w .1, can-pass (postIn l) f r x)
+
+-- the sum that the clock of a source becomes
+pub fits : (p : Post) (f : Frame) (t : Bool) (lane sources clock reached : ℕ) → lane ≡ p .lane → sources ≡ p .sources → clock ≡ p .clock .0
+    → t ≡ hasLane sources lane → t ≡ true → reached ≡ max clock (f .stamp .0)
+    → (hasLane (p .sources) (p .lane) ≡ true → max (p .clock .0) (f .stamp .0) < 65535) → reached + 1 < 65536
+fits p f t lane sources clock reached el es ec et s er h =
+    let y : hasLane (p .sources) (p .lane) ≡ true = rw (← el, ← es) (sym et ∙ s) in
+    let z : reached ≡ max (p .clock .0) (f .stamp .0) = rw ec at er in
+    omega (arith, h y)
+
+pub is-source : (p : Post) (t : Bool) (lane sources : ℕ) → lane ≡ p .lane → sources ≡ p .sources → t ≡ hasLane sources lane → t ≡ hasLane (p .sources) (p .lane)
+is-source p t lane sources el es et = rw (el, es) at et
+
+pub is-reached : (p : Post) (f : Frame) (clock reached : ℕ) → clock ≡ p .clock .0 → reached ≡ max clock (f .stamp .0) → reached ≡ max (p .clock .0) (f .stamp .0)
+is-reached p f clock reached ec er = rw ec at er
+
+-- ---- hear
+
+pub no-next : (next a b : Bool) → not next ≡ true → false ≡ (next && a && b)
+no-next true a b e = absurd (let z : _≡_ {A = ℕ} 0 1 = cc in omega arith)
+no-next false a b e = refl
+
+pub a-next : (next a b : Bool) → not next ≡ false → (a && b) ≡ (next && a && b)
+a-next true a b e = refl
+a-next false a b e = absurd (let z : _≡_ {A = ℕ} 0 1 = cc in omega arith)
+
+-- 24 and 29 by the last serial taken, and by whether the order is the next
+pub clock-is : (p : Post) (f : Frame) (last : ℕ) (next b : Bool) → last ≡ lastOf p (f .lane) → next ≡ isNext f last
+    → b ≡ (next && isSource p (p .lane) && leb 65535 (max (p .clock .0) (f .stamp .0))) → b ≡ clockPasses p f
+clock-is p f last next b el en e = rw (en, el) at e
+
+pub above-is : (p : Post) (f : Frame) (last : ℕ) (next b : Bool) → last ≡ lastOf p (f .lane) → next ≡ isNext f last
+    → b ≡ (next && ltb 0 last && leb (f .stamp .0) (getD (p .stamps) (orderPlace (f .lane) last) 0)) → b ≡ notAbove p f
+above-is p f last next b el en e = rw (en, el) at e
+
+-- the chain of refusals, each where none before it holds
+module _ (p : Post) (f : Frame) where
+  pub is-21 : (lane posts : ℕ) (b : Bool) → lane ≡ p .lane → posts ≡ p .posts → b ≡ hasLane posts lane → not b ≡ true → 21 ≡ hearRefusal p f
+  unfolding hearRefusal
+  is-21 lane posts b el ep eb t = let y : not (hasLane (p .posts) (p .lane)) ≡ true = rw (el, ep) at (rw eb at t) in rw y
+
+  -- what passed 21
+  abbrev pub Inside : Type 0
+  Inside = notInYard (p .posts) (p .lane) ≡ false
+
+  pub inside : (lane posts : ℕ) (b : Bool) → lane ≡ p .lane → posts ≡ p .posts → b ≡ hasLane posts lane → not b ≡ false → Inside
+  inside lane posts b el ep eb t = rw (el, ep) at (rw eb at t)
+
+  pub is-24 : (b : Bool) → Inside → b ≡ clockPasses p f → b ≡ true → 24 ≡ hearRefusal p f
+  unfolding hearRefusal
+  is-24 b i e t = let y : clockPasses p f ≡ true = sym e ∙ t in rw (i, y)
+
+  pub is-26 : (b : Bool) (lane : ℕ) → Inside → b ≡ clockPasses p f → b ≡ false → lane ≡ p .lane → f .sender ≡ lane → 26 ≡ hearRefusal p f
+  unfolding hearRefusal
+  is-26 b lane i e t el s =
+      let y : clockPasses p f ≡ false = sym e ∙ t in
+      let z : eqb (f .sender) (p .lane) ≡ true = eq-eqb (f .sender) (p .lane) (s ∙ el) in
+      rw (i, y, z)
+
+  -- what passed 24 and 26
+  abbrev pub Others : Type 0
+  Others = Inside × (clockPasses p f ≡ false) × (ownBroadcast p f ≡ false)
+
+  pub others : (b : Bool) (lane : ℕ) → Inside → b ≡ clockPasses p f → b ≡ false → lane ≡ p .lane → (f .sender ≡ lane → ⊥) → Others
+  others b lane i e t el s = (i, sym e ∙ t, ne-eqb (f .sender) (p .lane) (λ q. s (q ∙ sym el)))
+
+  pub is-28 : (b : Bool) → Others → b ≡ strange p f → b ≡ true → 28 ≡ hearRefusal p f
+  unfolding hearRefusal
+  is-28 b o e t = let y : strange p f ≡ true = sym e ∙ t in rw (o .0, o .1, o .2, y)
+
+  pub is-29 : (b c : Bool) → Others → b ≡ strange p f → b ≡ false → c ≡ notAbove p f → c ≡ true → 29 ≡ hearRefusal p f
+  unfolding hearRefusal
+  is-29 b c o e t ec s =
+      let y : strange p f ≡ false = sym e ∙ t in
+      let z : notAbove p f ≡ true = sym ec ∙ s in
+      rw (o .0, o .1, o .2, y, z)
+
+  pub is-30 : (b c d : Bool) → Others → b ≡ strange p f → b ≡ false → c ≡ notAbove p f → c ≡ false → d ≡ beyondOwn p f → d ≡ true → 30 ≡ hearRefusal p f
+  unfolding hearRefusal
+  is-30 b c d o e t ec s ed u =
+      let y : strange p f ≡ false = sym e ∙ t in
+      let z : notAbove p f ≡ false = sym ec ∙ s in
+      let w : beyondOwn p f ≡ true = sym ed ∙ u in
+      rw (o .0, o .1, o .2, y, z, w)
+
+  pub is-0 : (b c d : Bool) → Others → b ≡ strange p f → b ≡ false → c ≡ notAbove p f → c ≡ false → d ≡ beyondOwn p f → d ≡ false → 0 ≡ hearRefusal p f
+  unfolding hearRefusal
+  is-0 b c d o e t ec s ed u =
+      let y : strange p f ≡ false = sym e ∙ t in
+      let z : notAbove p f ≡ false = sym ec ∙ s in
+      let w : beyondOwn p f ≡ false = sym ed ∙ u in
+      rw (o .0, o .1, o .2, y, z, w)
+
+-- the whole step: the order is taken, the entries alone raise the table, and refused
+hears : (l m n : List ℕ) (f g : Frame) (count : ℕ) (a : hearings.HearAnswer) → hearRefusal (postIn l) f ≡ 0
+    → g ≡ hearStep (postIn l) f .frame → postIn m ≡ hearTook (postIn l) f → knownIn m ≡ knownIn l → 543 ≤ length m
+    → _≡_ {A = KnownDelivery} (record { post = postIn n; known = knownIn n; count = count }) (deliveredRow m)
+    → a ≡ passedAnswer f (lastOf (postIn l) (f .lane)) count
+    → stepped a n g ≡ hearsBy (knownIn l) (postIn l) f
+unfolding hearsBy
+hears l m n f g count a r eg em ek h ed ea =
+    let d : _≡_ {A = KnownDelivery} (record { post = postIn n; known = knownIn n; count = count }) (deliveredFrom (knownIn l) (hearTook (postIn l) f))
+    = ed ∙ delivered-whole m h ∙ rw (em, ek)
+    in
+    rw (r, ← d, ea, eg)
+
+pub hear-takes : (l m n : List ℕ) (f g : Frame) (number last count : ℕ) (t : Bool) → number ≡ hearRefusal (postIn l) f → number ≡ 0
+    → last ≡ lastOf (postIn l) (f .lane) → t ≡ isNext f last → t ≡ true
+    → g ≡ hearTaken (postIn l) f .frame → postIn m ≡ taken (postIn l) f → knownIn m ≡ knownIn l → 543 ≤ length m
+    → _≡_ {A = KnownDelivery} (record { post = postIn n; known = knownIn n; count = count }) (deliveredRow m)
+    → stepped (hearings.the-variants.Taken count) n g ≡ hearsBy (knownIn l) (postIn l) f
 unfolding hearStep hearTook
-hear-took p q f last place before n m b g el ep eb e z t s em eq eg =
-    let j : n ≡ hearRefusal p f = judged-by p f last place before n el ep eb e in
-    let y : eqb (hearRefusal p f) 0 ≡ true = eq-eqb (hearRefusal p f) 0 (sym j ∙ z) in
-    let next : isNext f (lastOf p (f .lane)) ≡ true = rw el at (sym t ∙ s) in
-    (em ∙ sym z ∙ j, rw (y, next) eq, rw (y, next) eg)
+hear-takes l m n f g number last count t en z el et s eg em ek h ed =
+    let r : hearRefusal (postIn l) f ≡ 0 = sym en ∙ z in
+    let x : isNext f (lastOf (postIn l) (f .lane)) ≡ true = rw el at (sym et ∙ s) in
+    hears l m n f g count _ r (rw (r, x, eg)) (rw x em) ek h ed (rw x)
 
-pub hear-raised : (p : Post) (f : Frame) (last : Serial) (place : ℕ) (before : Stamp) (n : ℕ) (b : Bool) (table : List ℕ)
-    → last ≡ record { 0 = lastOf p (f .lane) } → place ≡ orderPlace (f .lane) (last .0) → before ≡ record { 0 = stampAt p place }
-    → JudgedBy (headOf p) (last .0) (before .0) f n → n ≡ 0
-    → b ≡ isNext f (last .0) → b ≡ false → table ≡ raisedBelow (p .table) (f .entries) 8
-    → (0 ≡ hearRefusal p f) × (withClock p (p .clock .0) (p .serial .0) table ≡ hearTook p f) × (noFrame ≡ hearStep p f .frame)
+pub hear-raises : (l m n : List ℕ) (f g : Frame) (number last count : ℕ) (t : Bool) (a : hearings.HearAnswer) → number ≡ hearRefusal (postIn l) f → number ≡ 0
+    → last ≡ lastOf (postIn l) (f .lane) → t ≡ isNext f last → t ≡ false
+    → g ≡ noFrame → postIn m ≡ withTable (postIn l) (raisedBelow (postIn l .table) (f .entries) 8) → knownIn m ≡ knownIn l → 543 ≤ length m
+    → _≡_ {A = KnownDelivery} (record { post = postIn n; known = knownIn n; count = count }) (deliveredRow m)
+    → a ≡ otherAnswer f last count
+    → stepped a n g ≡ hearsBy (knownIn l) (postIn l) f
 unfolding hearStep hearOther hearTook raisedPost
-hear-raised p f last place before n b table el ep eb e z t s et =
-    let j : n ≡ hearRefusal p f = judged-by p f last place before n el ep eb e in
-    let y : eqb (hearRefusal p f) 0 ≡ true = eq-eqb (hearRefusal p f) 0 (sym j ∙ z) in
-    let next : isNext f (lastOf p (f .lane)) ≡ false = rw el at (sym t ∙ s) in
-    (sym z ∙ j, rw (y, next, et), rw (y, next))
+hear-raises l m n f g number last count t a en z el et s eg em ek h ed ea =
+    let r : hearRefusal (postIn l) f ≡ 0 = sym en ∙ z in
+    let x : isNext f (lastOf (postIn l) (f .lane)) ≡ false = rw el at (sym et ∙ s) in
+    hears l m n f g count a r (rw (r, x, eg)) (rw x em) ek h ed (rw (x, ← el) ea)
 
-pub hear-stays : (p : Post) (f : Frame) (last : Serial) (place : ℕ) (before : Stamp) (n : ℕ)
-    → last ≡ record { 0 = lastOf p (f .lane) } → place ≡ orderPlace (f .lane) (last .0) → before ≡ record { 0 = stampAt p place }
-    → JudgedBy (headOf p) (last .0) (before .0) f n → (n ≡ 0 → ⊥)
-    → (n ≡ hearRefusal p f) × (p ≡ hearTook p f) × (noFrame ≡ hearStep p f .frame)
-unfolding hearStep hearTook
-hear-stays p f last place before n el ep eb e h =
-    let j : n ≡ hearRefusal p f = judged-by p f last place before n el ep eb e in
-    let y : eqb (hearRefusal p f) 0 ≡ false = rw j at (ne-eqb n 0 h) in
-    (j, rw y, rw y)
+pub hear-stays : (l : List ℕ) (f g : Frame) (number : ℕ) → number ≡ hearRefusal (postIn l) f → (number ≡ 0 → ⊥) → g ≡ noFrame
+    → stepped (hearings.the-variants.Refused number) l g ≡ hearsBy (knownIn l) (postIn l) f
+unfolding hearsBy hearStep
+hear-stays l f g number en h eg =
+    let y : eqb (hearRefusal (postIn l) f) 0 ≡ false = rw en at (ne-eqb number 0 h) in
+    rw (y, en, eg)
 
--- a hearing by value is one in place, delivered
-pub hear-passes : (p p′ q : Post) (f : Frame) (n : ℕ) (g : Frame) (d : Delivered) (last : Serial) (a : hearings.HearAnswer)
-    → p′ ≡ p → n ≡ hearRefusal p′ f → n ≡ 0 → q ≡ hearTook p′ f → g ≡ hearStep p′ f .frame → d ≡ delivered q
-    → last ≡ record { 0 = lastOf p (f .lane) } → a ≡ passedAnswer f (last .0) (d .count)
-    → _≡_ {A = Heard} (record { answer = a; post = d .post; frame = g }) (hearStep p f)
-unfolding hearStep hearTaken hearOther hearTook
-hear-passes p p′ q f n g d last a ep e z eq eg ed el ea = go (isNext f (lastOf p (f .lane))) refl
-  where
-    y : eqb (hearRefusal p f) 0 ≡ true
-    y = eq-eqb (hearRefusal p f) 0 (rw ep at (sym e ∙ z))
+-- ---- order
 
-    go : (t : Bool) → isNext f (lastOf p (f .lane)) ≡ t → _≡_ {A = Heard} (record { answer = a; post = d .post; frame = g }) (hearStep p f)
-    go true s = rw (ea, eg, ed, eq, el, ep, y, s)
-    go false s = rw (ea, eg, ed, eq, el, ep, y, s)
+-- what is not refused by 23 and 24 can rise
+pub can-rise : (p : Post) → orderRefusal p ≡ 0 → (p .clock .0 < 65535) × (p .serial .0 < 16)
+can-rise p z =
+    let a = order-passed p z in
+    (leb-false 65535 (p .clock .0) (a .3), leb-false 16 (p .serial .0) (a .2))
 
-pub hear-refused : (p p′ : Post) (f : Frame) (n : ℕ) (g : Frame) → p′ ≡ p → n ≡ hearRefusal p′ f → (n ≡ 0 → ⊥) → g ≡ hearStep p′ f .frame
-    → _≡_ {A = Heard} (record { answer = hearings.the-variants.Refused n; post = p; frame = g }) (hearStep p f)
-unfolding hearStep
-hear-refused p p′ f n g ep e h eg =
-    let y : eqb (hearRefusal p f) 0 ≡ false = rw (e, ep) at (ne-eqb n 0 h) in
-    rw (eg, e, ep, y)
+-- a row that nothing refuses is whole, and of a lane
+pub can-send : (l : List ℕ) (n : ℕ) → n ≡ orderRefusal (postIn l) → n ≡ 0
+    → (543 ≤ length l) × (postIn l .lane < 8) × (postIn l .clock .0 < 65535) × (postIn l .serial .0 < 16)
+unfolding postIn
+can-send l n en z =
+    let p = postIn l in
+    let r = can-rise p (sym en ∙ z) in
+    let y : hasLane (p .posts) (p .lane) ≡ true = not-false (hasLane (p .posts) (p .lane)) (order-passed p (sym en ∙ z) .0) in
+    (whole l (p .lane) y, has-lane (p .posts) (p .lane) y, r .0, r .1)
+
+pub sends : (p a q : Post) (word lane serial clock : ℕ) (entries : List Entry) → lane ≡ p .lane → serial ≡ p .serial .0 → clock ≡ p .clock .0
+    → a ≡ ticked p (serial + 1) (clock + 1) → q ≡ kept a lane (serial + 1) (clock + 1) word → entries ≡ newestEntries (q .table)
+    → (_≡_ {A = Frame} (record { kind = 1; sender = lane; lane = lane; serial = record { 0 = serial + 1 }; stamp = record { 0 = clock + 1 }; word = word; entries = entries }) (orderSent p word .frame))
+    × (q ≡ ownTaken p word)
+unfolding orderSent ownTaken kept ticked
+sends p a q word lane serial clock entries el es ec ea eq en = (rw (en, eq, ea, el, es, ec), rw (eq, ea, el, es, ec))
+
+-- the whole step: not refused, and refused
+pub orders-are : (l m n : List ℕ) (word number count : ℕ) (g : Frame) → number ≡ orderRefusal (postIn l) → number ≡ 0
+    → g ≡ orderSent (postIn l) word .frame → postIn m ≡ ownTaken (postIn l) word → knownIn m ≡ knownIn l → 543 ≤ length m
+    → _≡_ {A = KnownDelivery} (record { post = postIn n; known = knownIn n; count = count }) (deliveredRow m)
+    → stepped (orders.the-variants.Sent (g .serial) (g .stamp) count) n g ≡ ordersBy (knownIn l) (postIn l) word
+unfolding ordersBy orderStep orderSent
+orders-are l m n word number count g en z eg em ek h ed =
+    let r : orderRefusal (postIn l) ≡ 0 = sym en ∙ z in
+    let d : _≡_ {A = KnownDelivery} (record { post = postIn n; known = knownIn n; count = count }) (deliveredFrom (knownIn l) (ownTaken (postIn l) word))
+    = ed ∙ delivered-whole m h ∙ rw (em, ek)
+    in
+    rw (r, ← d, eg)
+
+pub order-stays : (l : List ℕ) (word number : ℕ) (g : Frame) → number ≡ orderRefusal (postIn l) → (number ≡ 0 → ⊥) → g ≡ noFrame
+    → stepped (orders.the-variants.Refused number) l g ≡ ordersBy (knownIn l) (postIn l) word
+unfolding ordersBy orderStep
+order-stays l word number g en h eg =
+    let y : eqb (orderRefusal (postIn l)) 0 ≡ false = rw en at (ne-eqb number 0 h) in
+    rw (y, en, eg)
+
+-- ---- beacon
+
+-- a row in whose set of posts its lane is, is whole, and of a lane
+pub in-yard : (l : List ℕ) (lane posts : ℕ) (t : Bool) → lane ≡ postIn l .lane → posts ≡ postIn l .posts → t ≡ hasLane posts lane → t ≡ true
+    → (543 ≤ length l) × (lane < 8)
+unfolding postIn
+in-yard l lane posts t el ep et s =
+    let y : hasLane (postIn l .posts) lane ≡ true = rw ep at (sym et ∙ s) in
+    (whole l lane y, has-lane (postIn l .posts) lane y)
+
+pub beacon-sends : (p : Post) (lane posts : ℕ) (t : Bool) (entries : List Entry) → lane ≡ p .lane → posts ≡ p .posts → t ≡ hasLane posts lane → t ≡ true
+    → entries ≡ newestEntries (p .table)
+    → _≡_ {A = Beaconed} (record { answer = beacons.the-variants.Sent; frame = record { kind = 2; sender = lane; lane = 0; serial = record { 0 = 0 }; stamp = record { 0 = 0 }; word = 0; entries = entries } })
+    (beaconStep p)
+unfolding beaconStep
+beacon-sends p lane posts t entries el ep et s en =
+    let y : hasLane (p .posts) (p .lane) ≡ true = rw (el, ep) at (sym et ∙ s) in
+    rw (y, el, en)
+
+pub beacon-stays : (p : Post) (lane posts : ℕ) (t : Bool) (g : Frame) → lane ≡ p .lane → posts ≡ p .posts → t ≡ hasLane posts lane → not t ≡ true
+    → g ≡ noFrame → _≡_ {A = Beaconed} (record { answer = beacons.the-variants.Refused 21; frame = g }) (beaconStep p)
+unfolding beaconStep
+beacon-stays p lane posts t g el ep et s eg =
+    let y : not (hasLane (p .posts) (p .lane)) ≡ true = rw (el, ep) at (rw et at s) in
+    rw (y, eg)
+
+-- ---- the number and the values beside the whole answer
+
+pub with-order-answers : (known : List ℕ) (p : Post) (word : ℕ) (a : orders.OrderAnswer) (m : List ℕ) (g : Frame) → stepped a m g ≡ ordersBy known p word
+    → (stepped a m g ≡ ordersBy known p word) × OrderAnswers known p word a
+with-order-answers known p word a m g e =
+    let h : a ≡ ordersBy known p word .answer = ap (λ (s : Stepped orders.OrderAnswer). s .answer) e in
+    (e, rw h (order-answers known p word))
+
+pub with-hear-answers : (known : List ℕ) (p : Post) (f : Frame) (a : hearings.HearAnswer) (m : List ℕ) (g : Frame) → stepped a m g ≡ hearsBy known p f
+    → (stepped a m g ≡ hearsBy known p f) × HearAnswers known p f a
+with-hear-answers known p f a m g e =
+    let h : a ≡ hearsBy known p f .answer = ap (λ (s : Stepped hearings.HearAnswer). s .answer) e in
+    (e, rw h (hear-answers known p f))
+
+pub with-beacon-number : (p : Post) (r : Beaconed) → r ≡ beaconStep p → (r ≡ beaconStep p) × (beaconNumber (r .answer) ≡ beaconRefusal p)
+with-beacon-number p r e = (e, rw e (beacon-number p))

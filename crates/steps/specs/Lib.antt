@@ -2,4 +2,5 @@ pub mod Refusals
 pub mod Steps
 pub mod Answers
 pub mod Values
-pub mod InPlace
+pub mod Knowing
+pub mod Loops

@@ -13,9 +13,19 @@ use Rattle.steps.specs.Refusals.{orderRefusal, isOrder, isNext, hearRefu
 use Rattle.steps.specs.declared.OrderAnswer as orders
 use Rattle.steps.specs.declared.HearAnswer as hearings
 use Rattle.steps.specs.declared.BeaconAnswer as beacons
-use Rattle.steps.specs.declared.Ordered.{Ordered}
-use Rattle.steps.specs.declared.Heard.{Heard}
 use Rattle.steps.specs.declared.Beaconed.{Beaconed}
+
+-- what an order leaves: the answer, the post, and the broadcast, which is no frame (kind 0) where there is none
+pub record Ordered : Type 0 where
+  pub answer : orders.OrderAnswer
+  pub post : Post
+  pub frame : Frame
+
+-- what a hearing leaves
+pub record Heard : Type 0 where
+  pub answer : hearings.HearAnswer
+  pub post : Post
+  pub frame : Frame
 
 -- "It broadcasts an order frame, then delivers." "An order answers with its serial, its stamp and the count delivered"
 unfoldable pub orderSent : Post → ℕ → Ordered

@@ -1,193 +1,224 @@
-// The hear step: its refusals 21, 24, 26 and 28 to 30, and what it does where none of them holds.
+// The hear step's refusals 21, 24, 26 and 28 to 30, and its parts 1 to 3.
 use crate::HearAnswer;
-use crate::Took;
-use cells::PLACES;
-use cells::TABLE;
+use crate::newest;
 use frame::Entry;
 use frame::Frame;
 use frame::Serial;
 use frame::Stamp;
-use post::Head;
 use post::Post;
+use row::SerialCell;
 ghost use mathlib.Core.Path.{_≡_};
 ghost use mathlib.Core.Bool.{true, not, _&&_};
-ghost use mathlib.Core.List.{List};
-ghost use Prim.Native.Nat.{ℕ, _+_, _<_, max};
+ghost use Prim.Native.Nat.{_<_, _≤_, max};
 ghost use lib.Dec.{ltb, leb};
 ghost use lib.ListN.{getD};
 ghost use Rattle.cells.specs.Sets.{hasLane};
-ghost use Rattle.frame.specs.Layout.{noEntry};
-ghost use Rattle.post.specs.Heads.{postOf};
+ghost use Rattle.cells.specs.Tables.{orderPlace};
+ghost use Rattle.frame.specs.Layout.{entryOf};
+ghost use Rattle.post.specs.Record.{isSource, lastOf};
+ghost use Rattle.post.specs.Newest.{raised, raisedBelow};
 ghost use Rattle.post.specs.Taking.{taken};
-ghost use Rattle.steps.specs.Refusals.{isNext, hasStamp, strangeEntries, strange, beyondOwn};
+ghost use Rattle.row.specs.Rows.{postIn, knownIn, withTable};
+ghost use Rattle.steps.specs.Refusals.{isNext, hasStamp, strangeEntries, strange, beyondOwn, hearRefusal};
 ghost use Rattle.steps.specs.Steps.{hearTaken, otherAnswer};
-ghost use Rattle.steps.specs.InPlace.{passedAnswer, bare, JudgedBy};
+
+// Where the table stands in a row, and how many entries it has of a lane.
+pub(crate) const TABLE: usize = row::TABLE as usize;
+
+pub(crate) const TABLE_END: usize = row::STAMPS as usize;
+
+const LANE_ENTRIES: usize = Serial::COUNT as usize;
 
 // Whether the frame's order is the next of its lane.
-pub(crate) fn is_next(f: Frame, last: Serial) -> bool
+pub(crate) fn is_next(f: Frame, last: SerialCell) -> bool
     ensures { λ r. ⌜ r ≡ isNext f (last .0) ⌝ }
 {
-    (f.kind == Frame::ORDER) & ((f.serial.0 as u16) == (last.0 as u16) + 1)
+    (f.kind == Frame::ORDER) & ((f.serial.0 as u32) == (last.0 as u32) + 1)
 }
 
-// The lowest of 21, 24, 26 and 28 to 30 that holds, or 0.
-pub(crate) fn refusal(h: Head, last: Serial, before: Stamp, f: Frame) -> u8
-    ensures { λ r. ⌜ JudgedBy h (last .0) (before .0) f r ⌝ }
+// The lowest of 21, 24, 26 and 28 to 30 that holds, or 0; `last` was taken last from the frame's lane, and `next` tells whether its order
+// is the next.
+pub(crate) fn refusal(row: &[u16], f: Frame, last: SerialCell, next: bool) -> u8
+    requires { ⌜ (last .0 ≡ lastOf (postIn (now row)) (f .lane)) × (next ≡ isNext f (last .0)) ⌝ }
+    ensures { λ r. ⌜ r ≡ hearRefusal (postIn (now (row .entry))) f ⌝ }
 {
-    let number = cells::pick(beyond_own(h, f), 30, 0);
-    let number = cells::pick(not_above(last, before, f), 29, number);
-    let number = cells::pick(strange_frame(h, f), 28, number);
-    let number = cells::pick(f.sender == h.lane, 26, number);
-    let number = cells::pick(clock_passes(h, last, f), 24, number);
-    cells::pick(!cells::has(h.posts, h.lane), 21, number)
+    let lane = row::lane(row);
+    if !cells::has(row::posts(row), lane) {
+        return 21;
+    }
+    if clock_passes(row, f, next) {
+        return 24;
+    }
+    if (f.sender as u16) == lane {
+        return 26;
+    }
+    if strange_frame(row, f) {
+        return 28;
+    }
+    if not_above(row, f, last, next) {
+        return 29;
+    }
+    if beyond_own(row, f) {
+        return 30;
+    }
+    0
 }
 
 // 24
-fn clock_passes(h: Head, last: Serial, f: Frame) -> bool
-    ensures { λ r. ⌜ r ≡ (isNext f (last .0) && hasLane (h .sources) (h .lane) && leb 65535 (max (h .clock .0) (f .stamp .0))) ⌝ }
+fn clock_passes(row: &[u16], f: Frame, next: bool) -> bool
+    ensures { λ r. ⌜ r ≡ (next && isSource (postIn (now (row .entry))) (postIn (now (row .entry)) .lane) && leb 65535 (max (postIn (now (row .entry)) .clock .0) (f .stamp .0))) ⌝ }
 {
-    let source = cells::has(h.sources, h.lane);
-    let reached = cells::later(h.clock, f.stamp);
-    is_next(f, last) & source & (Post::CLOCK_LIMIT <= reached.0)
+    if !next {
+        return false;
+    }
+    let source = cells::has(row::sources(row), row::lane(row));
+    let reached = cells::later(row::clock(row), f.stamp);
+    source & (Post::CLOCK_LIMIT <= reached.0)
 }
 
 // 28
-fn strange_frame(h: Head, f: Frame) -> bool
-    ensures { λ r. ⌜ r ≡ strange (bare h) f ⌝ }
+fn strange_frame(row: &[u16], f: Frame) -> bool
+    ensures { λ r. ⌜ r ≡ strange (postIn (now (row .entry))) f ⌝ }
 {
-    let inside = cells::has(h.posts, f.sender);
-    let source = cells::has(h.sources, f.lane);
-    !inside | ((f.kind == Frame::ORDER) & !source) | strange_entries(h.sources, f)
+    let sources = row::sources(row);
+    let inside = cells::has(row::posts(row), f.sender as u16);
+    let source = cells::has(sources, f.lane as u16);
+    !inside | ((f.kind == Frame::ORDER) & !source) | strange_entries(sources, f)
 }
 
-fn strange_entries(sources: u8, f: Frame) -> bool
+fn strange_entries(sources: u16, f: Frame) -> bool
     ensures { λ r. ⌜ r ≡ strangeEntries sources f ⌝ }
 {
     let entries = f.entries;
-    let mut found = false;
     for i in 0..Post::LANES {
-        found = found | strange_entry(sources, i, entries[i as usize]);
+        if strange_entry(sources, i, entries[i as usize]) {
+            return true;
+        }
     }
-    found
+    false
 }
 
-fn strange_entry(sources: u8, i: u8, e: Entry) -> bool
+fn strange_entry(sources: u16, i: u8, e: Entry) -> bool
     ensures { λ r. ⌜ r ≡ (hasStamp e && not (hasLane sources i)) ⌝ }
 {
-    let source = cells::has(sources, i);
+    let source = cells::has(sources, i as u16);
     !(e.stamp.0 == 0) & !source
 }
 
 // 29
-fn not_above(last: Serial, before: Stamp, f: Frame) -> bool
-    ensures { λ r. ⌜ r ≡ (isNext f (last .0) && ltb 0 (last .0) && leb (f .stamp .0) (before .0)) ⌝ }
+fn not_above(row: &[u16], f: Frame, last: SerialCell, next: bool) -> bool
+    ensures { λ r. ⌜ r ≡ (next && ltb 0 (last .0) && leb (f .stamp .0) (getD (postIn (now (row .entry)) .stamps) (orderPlace (f .lane) (last .0)) 0)) ⌝ }
 {
-    is_next(f, last) & (0 < last.0) & (f.stamp.0 <= before.0)
+    if !next {
+        return false;
+    }
+    let before = row::stamp_at(row, row::order_place(f.lane, last));
+    (0 < last.0) & (f.stamp.0 <= before.0)
 }
 
 // 30
-fn beyond_own(h: Head, f: Frame) -> bool
-    ensures { λ r. ⌜ r ≡ beyondOwn (bare h) f ⌝ }
+fn beyond_own(row: &[u16], f: Frame) -> bool
+    ensures { λ r. ⌜ r ≡ beyondOwn (postIn (now (row .entry))) f ⌝ }
 {
-    let entries = f.entries;
-    let e = own_entry(entries, h.lane);
-    let order = (f.kind == Frame::ORDER) & (f.lane == h.lane) & (h.serial.0 < f.serial.0);
-    order | (!(e.stamp.0 == 0) & ((h.serial.0 < e.serial.0) | (h.clock.0 < e.stamp.0)))
+    let lane = row::lane(row);
+    let serial = row::serial(row);
+    let clock = row::clock(row);
+    let e = own_entry(f, lane);
+    let order = (f.kind == Frame::ORDER)
+        & ((f.lane as u16) == lane)
+        & (serial.0 < (f.serial.0 as u16));
+    order | (!(e.stamp.0 == 0) & ((serial.0 < (e.serial.0 as u16)) | (clock.0 < e.stamp.0)))
 }
 
-fn own_entry(entries: [Entry; Frame::LANES], lane: u8) -> Entry
-    ensures { λ r. ⌜ r ≡ getD entries lane noEntry ⌝ }
+fn own_entry(f: Frame, lane: u16) -> Entry
+    ensures { λ r. ⌜ r ≡ entryOf f lane ⌝ }
 {
-    if lane < Post::LANES {
-        entries[lane as usize]
+    if lane < row::LANES {
+        let i = lane as usize;
+        f.entries[i]
     } else {
-        Entry {
-            serial: Serial(0),
-            stamp: Stamp(0),
-        }
+        newest::none()
     }
 }
 
-// The order is taken, and broadcast under the post's own lane as sender.
-pub(crate) fn take(
-    h: Head,
-    f: Frame,
-    last: &mut [u8; Frame::LANES],
-    table: &mut [u16; TABLE],
-    stamps: &mut [u16; PLACES],
-    words: &mut [u16; PLACES],
-) -> Took
-    requires { ⌜ (hasLane (h .sources) (h .lane) ≡ true → max (h .clock .0) (f .stamp .0) < 65535) ⌝ }
-    ensures { λ r. ⌜ r .number ≡ 0 ⌝ }
-    ensures post { λ r. ⌜ ((log : List ℕ) → postOf (r .head) (now (last .exit)) (now (table .exit)) (now (stamps .exit)) (now (words .exit)) log ≡ taken (postOf h (now (last .entry)) (now (table .entry)) (now (stamps .entry)) (now (words .entry)) log) f) ⌝ }
-    ensures frame { λ r. ⌜ ((log : List ℕ) → r .frame ≡ hearTaken (postOf h (now (last .entry)) (now (table .entry)) (now (stamps .entry)) (now (words .entry)) log) f .frame) ⌝ }
+// Part 1: each entry raises the table.
+pub(crate) fn raise_all(row: &mut [u16], entries: [Entry; Frame::LANES])
+    requires { do ⌜ 543 ≤ (← ⟦row.len()⟧) ⌝ }
+    ensures { λ _. ⌜ postIn (now (row .exit)) ≡ withTable (postIn (now (row .entry))) (raisedBelow (postIn (now (row .entry)) .table) entries 8) ⌝ }
+    ensures known { λ _. ⌜ knownIn (now (row .exit)) ≡ knownIn (now (row .entry)) ⌝ }
 {
-    let head = take_in(h, f, last, table, stamps, words);
-    let entries = post::newest_entries(table);
+    raise_table(&mut row[TABLE..TABLE_END], entries)
+}
+
+fn raise_table(table: &mut [u16], entries: [Entry; Frame::LANES])
+    requires { do ⌜ (← ⟦table.len()⟧) ≡ 136 ⌝ }
+    ensures { λ _. ⌜ now (table .exit) ≡ raisedBelow (now (table .entry)) entries 8 ⌝ }
+{
+    for lane in 0..Frame::LANES {
+        raise(table, lane, entries[lane]);
+    }
+}
+
+// Nothing is written where the stamp is not larger: most entries of a frame are known. A serial over 16 has no entry.
+fn raise(table: &mut [u16], lane: usize, e: Entry)
+    requires { do ⌜ ((← ⟦table.len()⟧) ≡ 136) × (lane < 8) ⌝ }
+    ensures { λ _. ⌜ now (table .exit) ≡ raised (now (table .entry)) lane e ⌝ }
+{
+    if e.serial.0 > Serial::LAST {
+        return;
+    }
+    let place = lane * LANE_ENTRIES + (e.serial.0 as usize);
+    if table[place] < e.stamp.0 {
+        table[place] = e.stamp.0;
+    }
+}
+
+// Part 3: the order is taken, and broadcast under the post's own lane as sender.
+pub(crate) fn take(row: &mut [u16], f: Frame) -> Frame
+    requires { do ⌜ (543 ≤ (← ⟦row.len()⟧)) × (postIn (now row) .lane < 8) × (hasLane (postIn (now row) .sources) (postIn (now row) .lane) ≡ true → max (postIn (now row) .clock .0) (f .stamp .0) < 65535) ⌝ }
+    ensures { λ r. ⌜ r ≡ hearTaken (postIn (now (row .entry))) f .frame ⌝ }
+    ensures post { λ _. ⌜ postIn (now (row .exit)) ≡ taken (postIn (now (row .entry))) f ⌝ }
+    ensures known { λ _. ⌜ knownIn (now (row .exit)) ≡ knownIn (now (row .entry)) ⌝ }
+{
+    let sender = row::lane(row) as u8;
+    keep_and_tick(row, f);
+    let entries = newest::newest_entries(row);
     let serial = f.serial;
     let stamp = f.stamp;
-    let frame = Frame {
+    Frame {
         kind: Frame::ORDER,
-        sender: h.lane,
+        sender: sender,
         lane: f.lane,
         serial: serial,
         stamp: stamp,
         word: f.word,
         entries: entries,
-    };
-    Took {
-        number: 0,
-        head: head,
-        frame: frame,
     }
 }
 
 // Parts 1 and 3: the entries raise the table, the order is kept, and the clock of a source passes its stamp.
-fn take_in(
-    h: Head,
-    f: Frame,
-    last: &mut [u8; Frame::LANES],
-    table: &mut [u16; TABLE],
-    stamps: &mut [u16; PLACES],
-    words: &mut [u16; PLACES],
-) -> Head
-    requires { ⌜ (hasLane (h .sources) (h .lane) ≡ true → max (h .clock .0) (f .stamp .0) < 65535) ⌝ }
-    ensures { λ r. ⌜ ((log : List ℕ) → postOf r (now (last .exit)) (now (table .exit)) (now (stamps .exit)) (now (words .exit)) log ≡ taken (postOf h (now (last .entry)) (now (table .entry)) (now (stamps .entry)) (now (words .entry)) log) f) ⌝ }
+fn keep_and_tick(row: &mut [u16], f: Frame)
+    requires { do ⌜ (543 ≤ (← ⟦row.len()⟧)) × (hasLane (postIn (now row) .sources) (postIn (now row) .lane) ≡ true → max (postIn (now row) .clock .0) (f .stamp .0) < 65535) ⌝ }
+    ensures { λ _. ⌜ postIn (now (row .exit)) ≡ taken (postIn (now (row .entry))) f ⌝ }
+    ensures known { λ _. ⌜ knownIn (now (row .exit)) ≡ knownIn (now (row .entry)) ⌝ }
 {
-    let place = cells::order_place(f.lane, f.serial);
+    let source = cells::has(row::sources(row), row::lane(row));
+    let serial = row::serial(row);
+    let reached = cells::later(row::clock(row), f.stamp);
     let entries = f.entries;
-    post::raise_all(table, entries);
-    cells::put_last(last, f.lane, f.serial);
-    cells::put_stamp_at(stamps, place, f.stamp);
-    cells::put_word_at(words, place, f.word);
-    if cells::has(h.sources, h.lane) {
-        let reached = cells::later(h.clock, f.stamp);
-        let clock = Stamp(reached.0 + 1);
-        let mut next = h;
-        next.clock = clock;
-        cells::put_stamp_under(table, h.lane, h.serial, clock);
-        next
-    } else {
-        h
+    raise_all(row, entries);
+    row::keep(row, f.lane, f.serial, f.stamp, f.word);
+    if source {
+        row::tick(row, serial, Stamp(reached.0 + 1));
     }
 }
 
-// What a hearing answers that is not refused.
-pub(crate) fn answer(f: Frame, last: Serial, count: u8) -> HearAnswer
-    ensures { λ r. ⌜ r ≡ passedAnswer f (last .0) count ⌝ }
-{
-    if is_next(f, last) {
-        HearAnswer::Taken(count)
-    } else {
-        other(f, last, count)
-    }
-}
-
-fn other(f: Frame, last: Serial, count: u8) -> HearAnswer
+// What a hearing answers that is not refused and takes nothing.
+pub(crate) fn other(f: Frame, last: SerialCell, count: u8) -> HearAnswer
     ensures { λ r. ⌜ r ≡ otherAnswer f (last .0) count ⌝ }
 {
     if f.kind == Frame::ORDER {
-        if f.serial.0 <= last.0 {
+        if (f.serial.0 as u16) <= last.0 {
             HearAnswer::Again(count)
         } else {
             HearAnswer::Early(count)

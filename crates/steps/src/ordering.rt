@@ -1,85 +1,55 @@
-// The order step: its refusals 21 to 24, and what it does where none of them holds.
-use crate::Took;
-use cells::PLACES;
-use cells::TABLE;
+// The order step's refusals 21 to 24, and what it does where none of them holds.
+use crate::newest;
 use frame::Frame;
 use frame::Serial;
 use frame::Stamp;
-use post::Head;
 use post::Post;
+use row::SerialCell;
 ghost use mathlib.Core.Path.{_≡_};
-ghost use mathlib.Core.List.{List};
-ghost use Prim.Native.Nat.{ℕ, _<_};
-ghost use Rattle.post.specs.Heads.{postOf};
+ghost use Prim.Native.Nat.{_<_, _≤_};
 ghost use Rattle.post.specs.Taking.{ownTaken};
+ghost use Rattle.row.specs.Rows.{postIn, knownIn};
 ghost use Rattle.steps.specs.Refusals.{orderRefusal};
 ghost use Rattle.steps.specs.Steps.{orderSent};
 
+// Orders that a lane may send.
+const ORDERS: u16 = Serial::LAST as u16;
+
 // The lowest of 21 to 24 that holds, or 0.
-pub(crate) fn refusal(h: Head) -> u8
-    ensures { λ r. ⌜ ((last table stamps words log : List ℕ) → r ≡ orderRefusal (postOf h last table stamps words log)) ⌝ }
+pub(crate) fn refusal(row: &[u16]) -> u8
+    ensures { λ r. ⌜ r ≡ orderRefusal (postIn (now (row .entry))) ⌝ }
 {
-    let number = cells::pick(Post::CLOCK_LIMIT <= h.clock.0, 24, 0);
-    let number = cells::pick(Serial::LAST <= h.serial.0, 23, number);
-    let number = cells::pick(!cells::has(h.sources, h.lane), 22, number);
-    cells::pick(!cells::has(h.posts, h.lane), 21, number)
+    let lane = row::lane(row);
+    let clock = row::clock(row);
+    let serial = row::serial(row);
+    let number = cells::pick(Post::CLOCK_LIMIT <= clock.0, 24, 0);
+    let number = cells::pick(ORDERS <= serial.0, 23, number);
+    let number = cells::pick(!cells::has(row::sources(row), lane), 22, number);
+    cells::pick(!cells::has(row::posts(row), lane), 21, number)
 }
 
-// The post takes its own order and broadcasts it.
-pub(crate) fn send(
-    h: Head,
-    word: u16,
-    last: &mut [u8; Frame::LANES],
-    table: &mut [u16; TABLE],
-    stamps: &mut [u16; PLACES],
-    words: &mut [u16; PLACES],
-) -> Took
-    requires { ⌜ (h .clock .0 < 65535) × (h .serial .0 < 16) ⌝ }
-    ensures { λ r. ⌜ r .number ≡ 0 ⌝ }
-    ensures post { λ r. ⌜ ((log : List ℕ) → postOf (r .head) (now (last .exit)) (now (table .exit)) (now (stamps .exit)) (now (words .exit)) log ≡ ownTaken (postOf h (now (last .entry)) (now (table .entry)) (now (stamps .entry)) (now (words .entry)) log) word) ⌝ }
-    ensures frame { λ r. ⌜ ((log : List ℕ) → r .frame ≡ orderSent (postOf h (now (last .entry)) (now (table .entry)) (now (stamps .entry)) (now (words .entry)) log) word .frame) ⌝ }
+// The post takes its own order, and broadcasts it.
+pub(crate) fn send(row: &mut [u16], word: u16) -> Frame
+    requires { do ⌜ (543 ≤ (← ⟦row.len()⟧)) × (postIn (now row) .lane < 8) × (postIn (now row) .clock .0 < 65535) × (postIn (now row) .serial .0 < 16) ⌝ }
+    ensures { λ r. ⌜ r ≡ orderSent (postIn (now (row .entry))) word .frame ⌝ }
+    ensures post { λ _. ⌜ postIn (now (row .exit)) ≡ ownTaken (postIn (now (row .entry))) word ⌝ }
+    ensures known { λ _. ⌜ knownIn (now (row .exit)) ≡ knownIn (now (row .entry)) ⌝ }
 {
-    let head = take_own(h, word, last, table, stamps, words);
-    let entries = post::newest_entries(table);
-    let serial = head.serial;
-    let clock = head.clock;
-    let frame = Frame {
+    let lane = row::lane(row) as u8;
+    let own = row::serial(row);
+    let clock = row::clock(row);
+    let serial = Serial((own.0 + 1) as u8);
+    let stamp = Stamp(clock.0 + 1);
+    row::tick(row, SerialCell(serial.0 as u16), stamp);
+    row::keep(row, lane, serial, stamp, word);
+    let entries = newest::newest_entries(row);
+    Frame {
         kind: Frame::ORDER,
-        sender: h.lane,
-        lane: h.lane,
+        sender: lane,
+        lane: lane,
         serial: serial,
-        stamp: clock,
+        stamp: stamp,
         word: word,
         entries: entries,
-    };
-    Took {
-        number: 0,
-        head: head,
-        frame: frame,
     }
-}
-
-// Clock and own serial rise, and the order is kept.
-fn take_own(
-    h: Head,
-    word: u16,
-    last: &mut [u8; Frame::LANES],
-    table: &mut [u16; TABLE],
-    stamps: &mut [u16; PLACES],
-    words: &mut [u16; PLACES],
-) -> Head
-    requires { ⌜ (h .clock .0 < 65535) × (h .serial .0 < 16) ⌝ }
-    ensures { λ r. ⌜ ((log : List ℕ) → postOf r (now (last .exit)) (now (table .exit)) (now (stamps .exit)) (now (words .exit)) log ≡ ownTaken (postOf h (now (last .entry)) (now (table .entry)) (now (stamps .entry)) (now (words .entry)) log) word) ⌝ }
-{
-    let clock = Stamp(h.clock.0 + 1);
-    let serial = Serial(h.serial.0 + 1);
-    let place = cells::order_place(h.lane, serial);
-    let mut next = h;
-    next.clock = clock;
-    next.serial = serial;
-    cells::put_stamp_under(table, h.lane, serial, clock);
-    cells::put_last(last, h.lane, serial);
-    cells::put_stamp_at(stamps, place, clock);
-    cells::put_word_at(words, place, word);
-    next
 }

@@ -1,11 +1,11 @@
-use Rattle.frame.specs.Lanes.{anyBelow}
-use Rattle.frame.proofs.Laws.{any-more}
+use borrow.Author.Needs.{needs}
 use Prim.Native.Nat.{ℕ, _≤_, _-_}
+use mathlib.Core.Path.{_≡_, refl}
+use native.Mathlib.Omega.{arith}
 use lib.Dec.{ltb}
 use lib.ListN.{getD}
-use mathlib.Core.Path.{_≡_}
-use native.Mathlib.Omega.{arith}
-use borrow.Author.Needs.{needs}
+use Rattle.frame.specs.Lanes.{anyBelow}
+use Rattle.frame.proofs.Laws.{any-more}
 use Rattle.judge.proofs.bad_last.Statement.{statement}
 use Rattle.judge.proofs.bad_last.Tie as tie
 
@@ -20,10 +20,10 @@ unfolding anyBelow
 loop-holds c = search needs
 
 loop-again : tie.Need-loop-again Inv-loop μ-loop
-loop-again c = (omega arith, any-more _ _ _ _ (c .before .before .before .loop .inv .1) (rw (c .before .last-taken .ensures)))
+loop-again c = (omega arith, any-more _ _ _ _ (c .before .before .loop .inv .1) refl)
 
 returns : tie.Need-returns Inv-loop μ-loop
 returns c = let e : c .before .loop .i ≡ 8 = omega arith in rw e at (c .before .loop .inv .1)
 
 pub bad-last-spec : {M : Type 1} → statement M
-bad-last-spec = tie.close (tie.spec Inv-loop μ-loop loop-holds (λ c κs. tt) (λ c. search needs) (λ c. search needs) loop-again returns)
+bad-last-spec = tie.close (tie.spec Inv-loop μ-loop loop-holds (λ c. search needs) (λ c. search needs) (λ c. search needs) (λ c. search needs) loop-again returns)

@@ -1,11 +1,11 @@
-use Rattle.frame.specs.Lanes.{anyBelow}
-use Rattle.frame.proofs.Laws.{any-more}
+use borrow.Author.Needs.{needs}
 use Prim.Native.Nat.{ℕ, _≤_, _-_}
-use Rattle.cells.specs.Sets.{hasLane}
 use mathlib.Core.Bool.{not, _&&_, _||_}
 use mathlib.Core.Path.{_≡_}
 use native.Mathlib.Omega.{arith}
-use borrow.Author.Needs.{needs}
+use Rattle.frame.specs.Lanes.{anyBelow}
+use Rattle.frame.proofs.Laws.{any-more}
+use Rattle.cells.specs.Sets.{hasLane}
 use Rattle.judge.proofs.bad_roles.Statement.{statement}
 use Rattle.judge.proofs.bad_roles.Tie as tie
 

@@ -1,12 +1,22 @@
-use Rattle.steps.proofs.AnswerLaws.{beacon-answers}
-use Rattle.steps.proofs.Ways.{same-post}
-use mathlib.Core.Path.{_∙_, ap}
-use Rattle.steps.specs.Steps.{beaconStep}
+use borrow.Author.Tests.{not-false}
+use native.Mathlib.Omega.{arith}
+use Rattle.row.specs.Rows.{postIn}
+use Rattle.steps.proofs.Ways.{in-yard, beacon-sends, beacon-stays, with-beacon-number}
+use borrow.Author.Needs.{needs}
 use Rattle.steps.proofs.beacon.Statement.{statement}
 use Rattle.steps.proofs.beacon.Tie as tie
 
 returns : tie.Need-returns
-returns c = let a = c .before .before .before .before .args in let e = c .beacon-in .ensures .0 (a .t1 .last) (a .t1 .stamps) (a .t1 .words) (a .t1 .log) ∙ ap beaconStep (same-post (a .t1) _ (c .before .before .before .head-of .ensures)) in (e, beacon-answers _ _ e)
+returns c = with-beacon-number _ _ (beacon-stays (postIn (c .before .before .before .before .before .before .args .row .now)) _ _ _ _ (c .before .before .before .before .lane .ensures) (c .before .before .before .posts .ensures) (c .before .before .has .ensures) (c .before .if1 .taken) (c .none .ensures))
+
+newest-entries-requires : tie.Need-newest-entries-requires
+newest-entries-requires c κs = in-yard (c .before .before .before .before .before .args .row .now) _ _ _ (c .before .before .before .lane .ensures) (c .before .before .posts .ensures) (c .before .has .ensures) (not-false _ (c .if1 .left)) .0
+
+cast-t10 : tie.Need-cast-t10
+cast-t10 c = record { fits = omega (arith, in-yard (c .before .before .before .before .before .before .args .row .now) _ _ _ (c .before .before .before .before .lane .ensures) (c .before .before .before .posts .ensures) (c .before .before .has .ensures) (not-false _ (c .before .if1 .left)) .1) }
+
+returns-2 : tie.Need-returns-2
+returns-2 c = with-beacon-number _ _ (beacon-sends (postIn (c .before .before .before .before .before .before .args .row .now)) _ _ _ _ (c .before .before .before .before .lane .ensures) (c .before .before .before .posts .ensures) (c .before .before .has .ensures) (not-false _ (c .before .if1 .left)) (c .newest-entries .ensures))
 
 pub beacon-spec : {M : Type 1} → statement M
-beacon-spec = tie.close (tie.spec (λ c κs. tt) (λ c κs. tt) returns)
+beacon-spec = tie.close (tie.spec (λ c κs. tt) (λ c κs. tt) (λ c κs. tt) (λ c κs. tt) returns newest-entries-requires cast-t10 returns-2)

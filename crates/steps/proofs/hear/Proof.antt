@@ -1,14 +1,29 @@
-use Rattle.steps.proofs.AnswerLaws.{hear-answers}
-use Rattle.steps.proofs.Ways.{same-post, hear-passes, hear-refused}
-use Rattle.post.specs.Heads.{postOf}
+use native.Mathlib.Omega.{arith}
+use Prim.Native.Nat.{_≤_}
+use lib.ListN.{length}
+use mathlib.Core.Path.{sym, _∙_}
+use Rattle.steps.proofs.Ways.{whole-row, can-take, hear-takes, hear-raises, hear-stays, with-hear-answers}
+use borrow.Author.Needs.{needs}
 use Rattle.steps.proofs.hear.Statement.{statement}
 use Rattle.steps.proofs.hear.Tie as tie
 
+refusal-requires : tie.Need-refusal-requires
+refusal-requires c κs = (c .before .before .last-taken .ensures, c .before .is-next .ensures)
+
 returns : tie.Need-returns
-returns c = let a = c .before .before .before .before .before .before .before .before .before .before .before .before .before .before .before .before .before .before .before .before .before .before .args in let k = c .before .before .before .before .before .before .before .before .before .before .before .before .hear-in in let l = k .last .1 .1 in let e = hear-passes (a .t1) _ (postOf (k .result .head) (l .0) (l .1 .0) (l .1 .1 .0) (l .1 .1 .1 .0) (a .t1 .log)) _ _ _ _ _ _ (same-post (a .t1) _ (c .before .before .before .before .before .before .before .before .before .before .before .before .before .before .before .before .before .before .before .before .before .head-of .ensures)) (k .ensures .0 (a .t1 .log)) (c .before .before .before .before .before .before .before .before .if1 .taken) (k .ensures .1 .0 (a .t1 .log)) (k .ensures .1 .1 (a .t1 .log)) (rw (c .before .before .before .before .before .before .post-of .ensures) at (c .before .before .before .before .before .deliver .ensures)) (c .before .last-taken .ensures) (c .answer .ensures) in (e, hear-answers _ _ _ e)
+returns c = with-hear-answers _ _ _ _ _ _ (hear-stays (c .before .before .before .before .before .before .before .before .args .row .now) (c .before .before .before .before .before .before .before .before .args .f) _ _ (c .before .before .refusal .ensures) (c .before .if1 .taken) (c .none .ensures))
+
+take-requires : tie.Need-take-requires
+take-requires c κs = can-take (c .before .before .before .before .before .before .before .before .before .args .row .now) (c .before .before .before .before .before .before .before .before .before .args .f) _ _ (sym (c .before .before .before .refusal .ensures) ∙ c .before .before .if1 .left) (c .before .before .before .before .before .before .last-taken .ensures) (c .before .before .before .before .before .is-next .ensures) (c .before .if2 .taken)
 
 returns-2 : tie.Need-returns-2
-returns-2 c = let a = c .before .before .before .before .before .before .before .before .before .before .before .before .before .before .args in let k = c .before .before .before .before .hear-in in let e = hear-refused (a .t1) _ _ _ _ (same-post (a .t1) _ (c .before .before .before .before .before .before .before .before .before .before .before .before .before .head-of .ensures)) (k .ensures .0 (a .t1 .log)) (c .if1 .left) (k .ensures .1 .1 (a .t1 .log)) in (e, hear-answers _ _ _ e)
+returns-2 c = let h : 543 ≤ length (c .before .before .before .before .before .before .take .last .0) = omega (arith, whole-row (c .before .before .before .before .before .before .before .before .before .before .before .before .before .before .before .before .args .row .now) (c .before .before .before .before .before .before .before .before .before .before .before .before .before .before .before .before .args .f) (sym (c .before .before .before .before .before .before .before .before .before .before .refusal .ensures) ∙ c .before .before .before .before .before .before .before .before .before .if1 .left) .0) in with-hear-answers _ _ _ _ _ _ (hear-takes (c .before .before .before .before .before .before .before .before .before .before .before .before .before .before .before .before .args .row .now) (c .before .before .before .before .before .before .take .last .0) _ (c .before .before .before .before .before .before .before .before .before .before .before .before .before .before .before .before .args .f) _ _ _ _ _ (c .before .before .before .before .before .before .before .before .before .before .refusal .ensures) (c .before .before .before .before .before .before .before .before .before .if1 .left) (c .before .before .before .before .before .before .before .before .before .before .before .before .before .last-taken .ensures) (c .before .before .before .before .before .before .before .before .before .before .before .before .is-next .ensures) (c .before .before .before .before .before .before .before .before .if2 .taken) (c .before .before .before .before .before .before .take .ensures .0) (c .before .before .before .before .before .before .take .ensures .1 .0) (c .before .before .before .before .before .before .take .ensures .1 .1) h (c .before .before .deliver .ensures))
+
+raise-all-requires : tie.Need-raise-all-requires
+raise-all-requires c κs = whole-row (c .before .before .before .before .before .before .before .before .before .before .args .row .now) (c .before .before .before .before .before .before .before .before .before .before .args .f) (sym (c .before .before .before .before .refusal .ensures) ∙ c .before .before .before .if1 .left) .0
+
+returns-3 : tie.Need-returns-3
+returns-3 c = let h : 543 ≤ length (c .before .before .before .before .before .before .before .before .raise-all .last .0) = omega (arith, whole-row (c .before .before .before .before .before .before .before .before .before .before .before .before .before .before .before .before .before .before .before .args .row .now) (c .before .before .before .before .before .before .before .before .before .before .before .before .before .before .before .before .before .before .before .args .f) (sym (c .before .before .before .before .before .before .before .before .before .before .before .before .before .refusal .ensures) ∙ c .before .before .before .before .before .before .before .before .before .before .before .before .if1 .left) .0) in with-hear-answers _ _ _ _ _ _ (hear-raises (c .before .before .before .before .before .before .before .before .before .before .before .before .before .before .before .before .before .before .before .args .row .now) (c .before .before .before .before .before .before .before .before .raise-all .last .0) _ (c .before .before .before .before .before .before .before .before .before .before .before .before .before .before .before .before .before .before .before .args .f) _ _ _ _ _ _ (c .before .before .before .before .before .before .before .before .before .before .before .before .before .refusal .ensures) (c .before .before .before .before .before .before .before .before .before .before .before .before .if1 .left) (c .before .before .before .before .before .before .before .before .before .before .before .before .before .before .before .before .last-taken .ensures) (c .before .before .before .before .before .before .before .before .before .before .before .before .before .before .before .is-next .ensures) (c .before .before .before .before .before .before .before .before .before .before .before .if2 .left) (c .none2 .ensures) (c .before .before .before .before .before .before .before .before .raise-all .ensures .0) (c .before .before .before .before .before .before .before .before .raise-all .ensures .1) h (c .before .before .before .before .deliver2 .ensures) (c .before .other .ensures))
 
 pub hear-spec : {M : Type 1} → statement M
-hear-spec = tie.close (tie.spec (λ c κs. tt) (λ c κs. tt) (λ c κs. tt) (λ c κs. tt) (λ c κs. tt) (λ c κs. tt) returns returns-2)
+hear-spec = tie.close (tie.spec (λ c κs. tt) (λ c κs. tt) refusal-requires (λ c κs. tt) (λ c. search needs) returns take-requires (λ c κs. tt) (λ c. search needs) returns-2 raise-all-requires (λ c κs. tt) (λ c κs. tt) (λ c κs. tt) (λ c. search needs) returns-3)

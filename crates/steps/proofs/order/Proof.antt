@@ -1,14 +1,24 @@
+use native.Mathlib.Omega.{arith}
+use Prim.Native.Nat.{_≤_}
+use lib.ListN.{length}
+use mathlib.Core.Path.{ap}
+use Rattle.row.specs.Rows.{postIn, knownIn}
 use Rattle.steps.proofs.AnswerLaws.{order-answers}
-use Rattle.steps.proofs.Ways.{same-post, order-sends, order-refused}
-use Rattle.post.specs.Heads.{postOf}
+use Rattle.steps.specs.Knowing.{Stepped}
+use Rattle.steps.specs.declared.OrderAnswer.{OrderAnswer}
+use Rattle.steps.proofs.Ways.{can-send, orders-are, order-stays, with-order-answers}
+use borrow.Author.Needs.{needs}
 use Rattle.steps.proofs.order.Statement.{statement}
 use Rattle.steps.proofs.order.Tie as tie
 
+send-requires : tie.Need-send-requires
+send-requires c κs = can-send (c .before .before .before .before .before .args .row .now) _ (c .before .before .refusal .ensures) (c .before .if1 .left)
+
 returns : tie.Need-returns
-returns c = let a = c .before .before .before .before .before .before .before .before .before .before .before .before .before .before .before .before .before .before .before .before .args in let k = c .before .before .before .before .before .before .before .before .before .before .order-in in let l = k .last .1 .1 in let e = order-sends (a .p) _ (postOf (k .result .head) (l .0) (l .1 .0) (l .1 .1 .0) (l .1 .1 .1 .0) (a .p .log)) _ _ _ _ (same-post (a .p) _ (c .before .before .before .before .before .before .before .before .before .before .before .before .before .before .before .before .before .before .before .head-of .ensures)) (k .ensures .0 (a .p .log)) (c .before .before .before .before .before .before .if1 .taken) (k .ensures .1 .0 (a .p .log)) (k .ensures .1 .1 (a .p .log)) (rw (c .before .before .before .before .post-of .ensures) at (c .before .before .before .deliver .ensures)) in (e, order-answers _ _ _ e)
+returns c = with-order-answers _ _ _ _ _ _ (order-stays (c .before .before .before .before .before .args .row .now) (c .before .before .before .before .before .args .word) _ _ (c .before .before .refusal .ensures) (c .before .if1 .taken) (c .none .ensures))
 
 returns-2 : tie.Need-returns-2
-returns-2 c = let a = c .before .before .before .before .before .before .before .before .before .before .before .before .before .before .args in let k = c .before .before .before .before .order-in in let e = order-refused (a .p) _ _ _ _ (same-post (a .p) _ (c .before .before .before .before .before .before .before .before .before .before .before .before .before .head-of .ensures)) (k .ensures .0 (a .p .log)) (c .if1 .left) (k .ensures .1 .1 (a .p .log)) in (e, order-answers _ _ _ e)
+returns-2 c = let h : 543 ≤ length (c .before .before .before .before .before .before .before .before .send .last .0) = omega (arith, can-send (c .before .before .before .before .before .before .before .before .before .before .before .before .before .before .args .row .now) _ (c .before .before .before .before .before .before .before .before .before .before .before .refusal .ensures) (c .before .before .before .before .before .before .before .before .before .before .if1 .left) .0) in with-order-answers _ _ _ _ _ _ (orders-are (c .before .before .before .before .before .before .before .before .before .before .before .before .before .before .args .row .now) (c .before .before .before .before .before .before .before .before .send .last .0) _ (c .before .before .before .before .before .before .before .before .before .before .before .before .before .before .args .word) _ _ _ (c .before .before .before .before .before .before .before .before .before .before .before .refusal .ensures) (c .before .before .before .before .before .before .before .before .before .before .if1 .left) (c .before .before .before .before .before .before .before .before .send .ensures .0) (c .before .before .before .before .before .before .before .before .send .ensures .1 .0) (c .before .before .before .before .before .before .before .before .send .ensures .1 .1) h (c .before .before .before .before .deliver .ensures))
 
 pub order-spec : {M : Type 1} → statement M
-order-spec = tie.close (tie.spec (λ c κs. tt) (λ c κs. tt) (λ c κs. tt) (λ c κs. tt) returns returns-2)
+order-spec = tie.close (tie.spec (λ c κs. tt) (λ c κs. tt) (λ c. search needs) returns send-requires (λ c κs. tt) (λ c. search needs) returns-2)

@@ -2,6 +2,7 @@ use borrow.Author.Needs.{needs}
 use Rattle.frame.specs.Lanes.{anyBelow}
 use Rattle.deliver.specs.Loops.{readyIn}
 use Rattle.deliver.proofs.Waiting.{any-more, none-yet}
+use Rattle.row.specs.Rows.{postIn, knownIn}
 use Prim.Native.Nat.{_≤_, _-_}
 use mathlib.Core.Path.{_≡_}
 use native.Mathlib.Omega.{arith}
@@ -9,10 +10,10 @@ use Rattle.deliver.proofs.ready.any_ready.Statement.{statement}
 use Rattle.deliver.proofs.ready.any_ready.Tie as tie
 
 abbrev Inv-loop : tie.InvT-loop
-Inv-loop known last stamps least ready₀ lane₀ ready lane = (lane ≤ 8) × (ready ≡ anyBelow (readyIn known last stamps least) lane)
+Inv-loop row least ready₀ lane₀ ready lane = (lane ≤ 8) × (ready ≡ anyBelow (readyIn (knownIn row) (postIn row .last) (postIn row .stamps) least) lane)
 
 abbrev μ-loop : tie.MeasureT-loop
-μ-loop known last stamps least ready₀ lane₀ ready lane = 8 - lane
+μ-loop row least ready₀ lane₀ ready lane = 8 - lane
 
 loop-holds : tie.Need-loop-holds Inv-loop μ-loop
 loop-holds c = (omega arith, none-yet _)

@@ -1,8 +1,13 @@
+use Rattle.steps.proofs.Ways.{no-next, a-next}
+use borrow.Author.Needs.{needs}
 use Rattle.steps.proofs.hearing.clock_passes.Statement.{statement}
 use Rattle.steps.proofs.hearing.clock_passes.Tie as tie
 
 returns : tie.Need-returns
-returns c = rw (c .before .is-next .ensures, c .before .before .before .has .ensures, c .before .before .later .ensures)
+returns c = no-next (c .before .before .args .next) _ _ (c .if1 .taken)
+
+returns-2 : tie.Need-returns-2
+returns-2 c = rw (c .before .before .before .has .ensures, c .before .later .ensures, c .before .before .before .before .before .sources .ensures, c .before .before .before .before .lane .ensures, c .before .before .clock .ensures) (a-next (c .before .before .before .before .before .before .before .before .args .next) _ _ (c .before .before .before .before .before .before .if1 .left))
 
 pub clock-passes-spec : {M : Type 1} → statement M
-clock-passes-spec = tie.close (tie.spec (λ c κs. tt) (λ c κs. tt) (λ c κs. tt) returns)
+clock-passes-spec = tie.close (tie.spec returns (λ c κs. tt) (λ c κs. tt) (λ c κs. tt) (λ c κs. tt) (λ c κs. tt) returns-2)

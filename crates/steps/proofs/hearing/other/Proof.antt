@@ -1,3 +1,4 @@
+use borrow.Author.Needs.{needs}
 use borrow.Author.Tests.{eq-eqb, ne-eqb, le-leb, lt-leb}
 use Rattle.steps.proofs.hearing.other.Statement.{statement}
 use Rattle.steps.proofs.hearing.other.Tie as tie
@@ -12,4 +13,4 @@ returns-3 : tie.Need-returns-3
 returns-3 c = simp (ne-eqb _ 1 (c .if1 .left))
 
 pub other-spec : {M : Type 1} → statement M
-other-spec = tie.close (tie.spec returns returns-2 returns-3)
+other-spec = tie.close (tie.spec (λ c. search needs) returns returns-2 returns-3)

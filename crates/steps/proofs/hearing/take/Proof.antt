@@ -1,12 +1,11 @@
 use borrow.Author.Needs.{needs}
-use Rattle.steps.proofs.Ways.{take-frame}
-use mathlib.Core.Path.{refl}
-use Rattle.post.specs.Heads.{postOf}
+use Rattle.row.specs.Rows.{postIn}
+use Rattle.steps.proofs.Ways.{takes-frame}
 use Rattle.steps.proofs.hearing.take.Statement.{statement}
 use Rattle.steps.proofs.hearing.take.Tie as tie
 
 returns : tie.Need-returns
-returns c = let a = c .before .before .before .before .before .before .before .before .before .args in let k = c .before .before .before .before .take-in in let l = k .last .1 .1 in (refl, (k .ensures, λ log. take-frame (postOf (a .h) (a .last .now) (a .table .now) (a .stamps .now) (a .words .now) log) (postOf (k .result) (l .0) (l .1 .0) (l .1 .1 .0) (l .1 .1 .1 .0) log) _ _ (k .ensures log) (c .before .before .newest-entries .ensures)))
+returns c = (takes-frame (postIn (c .before .before .before .before .before .before .before .before .before .before .before .args .row .now)) (postIn (c .before .before .before .before .before .before .keep-and-tick .last .0)) (c .before .before .before .before .before .before .before .before .before .before .before .args .f) _ _ (c .before .before .before .before .before .before .before .before .lane .ensures) (c .before .before .before .before .before .before .keep-and-tick .ensures .0) (c .before .before .newest-entries .ensures), (c .before .before .before .before .before .before .keep-and-tick .ensures .0, c .before .before .before .before .before .before .keep-and-tick .ensures .1))
 
 pub take-spec : {M : Type 1} → statement M
-take-spec = tie.close (tie.spec (λ c κs. search needs) (λ c κs. tt) returns)
+take-spec = tie.close (tie.spec (λ c κs. tt) (λ c. search needs) (λ c κs. search needs) (λ c κs. search needs) (λ c. search needs) returns)

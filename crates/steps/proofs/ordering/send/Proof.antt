@@ -1,12 +1,13 @@
+use mathlib.Core.Path.{_∙_}
+use Rattle.row.specs.Rows.{postIn}
+use Rattle.row.proofs.Laws.{tick-post, tick-known}
+use Rattle.steps.proofs.Ways.{sends}
 use borrow.Author.Needs.{needs}
-use Rattle.steps.proofs.Ways.{send-frame}
-use mathlib.Core.Path.{refl}
-use Rattle.post.specs.Heads.{postOf}
 use Rattle.steps.proofs.ordering.send.Statement.{statement}
 use Rattle.steps.proofs.ordering.send.Tie as tie
 
 returns : tie.Need-returns
-returns c = let a = c .before .before .before .before .before .before .before .before .before .args in let k = c .before .before .before .before .take-own in let l = k .last .1 .1 in (refl, (k .ensures, λ log. send-frame (postOf (a .h) (a .last .now) (a .table .now) (a .stamps .now) (a .words .now) log) (postOf (k .result) (l .0) (l .1 .0) (l .1 .1 .0) (l .1 .1 .1 .0) log) _ _ (k .ensures log) (c .before .before .newest-entries .ensures)))
+returns c = let h = sends (postIn (c .before .before .before .before .before .before .before .before .before .before .before .before .before .before .before .before .before .before .before .before .args .row .now)) (postIn (c .before .before .before .before .before .before .before .before .tick .last .0)) (postIn (c .before .before .before .before .keep .last .0)) (c .before .before .before .before .before .before .before .before .before .before .before .before .before .before .before .before .before .before .before .before .args .word) _ _ _ _ (c .before .before .before .before .before .before .before .before .before .before .before .before .before .before .before .before .before .lane .ensures) (c .before .before .before .before .before .before .before .before .before .before .before .before .before .before .before .serial .ensures) (c .before .before .before .before .before .before .before .before .before .before .before .before .before .clock .ensures) (tick-post _ _ _ _ (c .before .before .before .before .before .before .before .before .before .before .before .before .before .before .before .before .before .before .before .before .pre .0) (c .before .before .before .before .before .before .before .before .tick .ensures)) (c .before .before .before .before .keep .ensures .0) (c .newest-entries .ensures) in (h .0, (h .1, c .before .before .before .before .keep .ensures .1 ∙ tick-known _ _ _ _ (c .before .before .before .before .before .before .before .before .tick .ensures)))
 
 pub send-spec : {M : Type 1} → statement M
-send-spec = tie.close (tie.spec (λ c κs. search needs) (λ c κs. tt) returns)
+send-spec = tie.close (tie.spec (λ c κs. tt) (λ c. search needs) (λ c κs. tt) (λ c κs. tt) (λ c. search needs) (λ c. search needs) (λ c. search needs) (λ c. search needs) (λ c κs. tt) (λ c κs. tt) (λ c κs. search needs) (λ c. search needs) returns)

@@ -10,13 +10,13 @@ use lib.ListN.{length}
 use borrow.Author.Tests.{lt-ltb, le-ltb, ne-eqb}
 use Rattle.frame.specs.declared.Frame as frames
 use Rattle.frame.specs.Layout.{bytesOf, frameOf, noFrame}
-use Rattle.frame.specs.Refusals.{frameRefusal, badEntries, readRefusal}
-use Rattle.frame.specs.Lanes.{anyBelow}
-use Rattle.frame.proofs.RoundTrip.{bytes-length, frame-bytes}
+use Rattle.frame.specs.Refusals.{readRefusal}
+use Rattle.frame.proofs.RoundTrip.{frame-bytes}
 use Rattle.frame.proofs.Theorems.{judged-alike}
-use Rattle.air.specs.Air.{stretchAt, placeRefusal, airWith}
-use Rattle.air.proofs.Laws.{write-good, has-place, kept-air}
-use Rattle.air.proofs.Stretches.{placed-same, others-stay}
+use Rattle.air.specs.Air.{stretchAt, placeRefusal, framesWith}
+use Rattle.air.proofs.Laws.{place-judges}
+use Rattle.air.proofs.Stretches.{others-stay, frame-there}
+use Rattle.air.proofs.Buffers.{none-placed, none-kept}
 use Rattle.yard.specs.Singles.{framesAfter, frameAt}
 use Rattle.yard.specs.Worlds.{World}
 use Rattle.laws.proofs.TestLaws.{same-or-not, below-or-not}
@@ -32,51 +32,46 @@ air-at w k l = rw (lt-ltb k (w .yard .frames) l)
 
 -- ---- no broadcast
 
--- no frame is refused by 7
-none-refused : frameRefusal noFrame ≡ 7
-unfolding frameRefusal badEntries anyBelow
-none-refused = refl
-
-none-placed : (air : List ℕ) (k : ℕ) → placeRefusal air k noFrame ≢ 0
-none-placed air k z = let p = has-place air k noFrame z in omega (arith, p .1, none-refused)
-
--- so the air stays, and no frame is counted
-pub silent-air : (air : List ℕ) (k : ℕ) → airWith air k noFrame ≡ air
-silent-air air k = kept-air air k noFrame (none-placed air k)
+-- the air stays, and no frame is counted
+pub silent-air : (air : List ℕ) (k : ℕ) → framesWith air k noFrame ≡ air
+silent-air air k = none-kept air k noFrame refl
 
 pub silent-frames : (air : List ℕ) (k : ℕ) → framesAfter air k noFrame ≡ k
 unfolding framesAfter
-silent-frames air k = rw (ne-eqb (placeRefusal air k noFrame) 0 (none-placed air k))
+silent-frames air k = rw (ne-eqb (placeRefusal air k noFrame) 0 (none-placed air k noFrame refl))
 
 -- ---- a broadcast, where there is room
 
 module _ (air : List ℕ) (k : ℕ) (f : frames.Frame) (whole : length air ≡ 65536) (room : k < 2048) (s : Sendable f) where
+  spoken-place : placeRefusal air k f ≡ 0
+  spoken-place = place-judges air k f (omega arith) ∙ s .good
+
   pub spoken-frames : framesAfter air k f ≡ k + 1
   unfolding framesAfter
-  spoken-frames = rw (write-good air k f whole room (s .good) .0)
+  spoken-frames = rw spoken-place
 
-  spoken-stretch : stretchAt (airWith air k f) k ≡ bytesOf f
-  spoken-stretch = rw (write-good air k f whole room (s .good) .1) (placed-same air k (bytesOf f) whole room (bytes-length f))
+  spoken-stretch : stretchAt (framesWith air k f) k ≡ bytesOf f
+  spoken-stretch = frame-there air k f spoken-place
 
   -- frame k is the broadcast
-  pub spoken-frame : frameAt (airWith air k f) k ≡ f
+  pub spoken-frame : frameAt (framesWith air k f) k ≡ f
   spoken-frame = ap frameOf spoken-stretch ∙ frame-bytes f (s .fits)
 
   -- and reading does not refuse it
-  pub spoken-read : readRefusal (stretchAt (airWith air k f) k) ≡ 0
+  pub spoken-read : readRefusal (stretchAt (framesWith air k f) k) ≡ 0
   spoken-read = ap readRefusal spoken-stretch ∙ judged-alike f (s .fits) ∙ s .good
 
   -- the frames before it stay
-  pub spoken-before : (j : ℕ) → j < k → stretchAt (airWith air k f) j ≡ stretchAt air j
-  spoken-before j l = others-stay air k j f (omega arith) (omega arith)
+  pub spoken-before : (j : ℕ) → j < k → stretchAt (framesWith air k f) j ≡ stretchAt air j
+  spoken-before j l = others-stay air k j f (omega arith)
 
   -- all of it, as the model sees it
-  pub air-spoken : airView (airWith air k f) (k + 1) ≡ upd (airView air k) k (frameView f)
+  pub air-spoken : airView (framesWith air k f) (k + 1) ≡ upd (airView air k) k (frameView f)
   unfolding airView
   air-spoken = fun-ext (λ j. go j (same-or-not j k) (below-or-not j k))
     where
       go : (j : ℕ) → (j ≡ k) ⊎ (j ≢ k) → (j < k) ⊎ (k ≤ j)
-          → cond (ltb j (k + 1)) (frameView (frameAt (airWith air k f) j)) noFrameYet
+          → cond (ltb j (k + 1)) (frameView (frameAt (framesWith air k f) j)) noFrameYet
           ≡ upd (λ (i : ℕ). cond (ltb i k) (frameView (frameAt air i)) noFrameYet) k (frameView f) j
       go j (inl e) l = rw (e, upd-same, lt-ltb k (k + 1) (omega arith)) (ap frameView spoken-frame)
       go j (inr n) (inl l) =

@@ -5,7 +5,7 @@ use mathlib.Core.Bool.{true, false}
 use Prim.Native.Nat.{ℕ, _+_, _<_, _≤_}
 use lib.ListN.{length}
 use borrow.Author.Tests.{lt-ltb, le-ltb, le-leb, lt-leb, eq-eqb, ne-eqb}
-use Rattle.air.specs.Air.{airWith}
+use Rattle.air.specs.Air.{framesWith}
 use Rattle.post.specs.Newest.{beaconFrame}
 use Rattle.steps.specs.Refusals.{notInYard}
 use Rattle.steps.specs.Steps.{beaconStep}
@@ -59,7 +59,7 @@ pub record BeaconDone (w : World) (lane : ℕ) : Type 0 where
   pub answer : yardBeacons (w .air) (w .yard) lane .answer ≡ beaconing.the-variants.Sent
   pub leaves : single w (beacon lane) ≡ record {
     yard = withBeacons (w .yard) (w .yard .frames + 1) (w .yard .beacons + 1);
-    air = airWith (w .air) (w .yard .frames) (beaconFrame (postAt (w .yard) lane));
+    air = framesWith (w .air) (w .yard .frames) (beaconFrame (postAt (w .yard) lane));
   }
 
 pub beacon-done : (w : World) (lane : ℕ) → lane < 8 → length (w .air) ≡ 65536

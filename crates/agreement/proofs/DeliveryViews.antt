@@ -3,11 +3,12 @@ use mathlib.Core.Path.{_≡_, refl, sym, ap, _∙_}
 use mathlib.Core.Logic.{_⊎_, inl, inr, _≢_}
 use mathlib.Core.Bool.{Bool, true, false, cond, not, _&&_}
 use mathlib.Core.List.{List, [], _∷_, _++_, map, append-nil, map-append}
-use Prim.Native.Nat.{ℕ, _+_, _-_, _/_, _%_, _<_, _≤_}
+use Prim.Native.Nat.{ℕ, _+_, _/_, _%_, _<_, _≤_}
 use native.Mathlib.Omega.{arith}
 use lib.ListN.{getD}
-use borrow.Author.Tests.{ltb-true, lt-ltb}
-use Rattle.cells.specs.Tables.{orderPlace, stampUnder}
+use borrow.Author.Tests.{ltb-true}
+use Rattle.cells.specs.Tables.{stampUnder, orderPlace}
+use Rattle.cells.proofs.Places.{order-inside, order-lane, order-serial, place-order}
 use Rattle.post.specs.declared.Post as posts
 use Rattle.post.specs.Record.{isSource, isDest, lastOf}
 use Rattle.deliver.specs.Delivery.{isTaken, isLogged, stampAt, isDue, duePlaces, delivered}
@@ -15,6 +16,7 @@ use Rattle.roll.specs.Runs.{Order}
 use Rattle.roll.specs.Logs.{orderAt, ordersLogged, rank, inOrder, Rising}
 use Rattle.laws.proofs.TestLaws.{true-or-false, not-both, and-made, same-or-not, below-or-not}
 use Rattle.laws.proofs.ListLaws.{Mem, RisingBy}
+use Rattle.laws.proofs.TableLaws.{order-taken}
 use Rattle.deliver.specs.Keys.{keyAt}
 use Rattle.laws.proofs.LogLaws.{logOf, logged-mem, mem-logged, is-due, due-is, places-due, due-places, places-rise}
 use Rattle.laws.proofs.Valid.{Shaped, Valid}
@@ -24,16 +26,13 @@ use Rattle.model.proofs.OrderLists.{Apart, in-order-rises, in-order-mem, mem-in
 use Rattle.model.proofs.Invariants.{TakenIn}
 use Rattle.model.proofs.Taken.{KeptRise, kept-rise, mem-those, apart-those, apart-taken, has-mem, mem-taken}
 use Rattle.model.proofs.Delivery.{ready-le, le-ready, due-taken, due-ready, due-new}
-use Rattle.agreement.proofs.Views.{postView, tableView, placesView}
-use Rattle.agreement.proofs.ArrayViews.{table-in, places-in}
+use Rattle.agreement.proofs.Views.{postView, placesView}
 
 -- ---- places and orders
 
 -- a number kept at a place, under its lane and serial
 place-view : (l : List ℕ) (place : ℕ) → getD l place 0 ≡ placesView l (place / 16) (place % 16 + 1)
-place-view l place =
-    let e : orderPlace (place / 16) (place % 16 + 1) ≡ place = omega arith in
-    sym (places-in l (place / 16) (place % 16 + 1) (omega arith) (omega arith) ∙ ap (λ (k : ℕ). getD l k 0) e)
+place-view l place = ap (λ (k : ℕ). getD l k 0) (sym (place-order place))
 
 -- so the order kept at a place
 order-under : (q : posts.Post) (place : ℕ) → orderAt q place ≡ orderOf (postView q) (place / 16) (place % 16 + 1)
@@ -46,15 +45,12 @@ order-under q place = λ t. record {
 
 -- and the other way round
 order-at : (q : posts.Post) (i n : ℕ) → 0 < n → n ≤ 16 → orderOf (postView q) i n ≡ orderAt q (orderPlace i n)
-order-at q i n a b =
-    let lane : orderPlace i n / 16 ≡ i = omega arith in
-    let serial : orderPlace i n % 16 + 1 ≡ n = omega arith in
-    λ t. record {
-      lane = sym lane t;
-      serial = sym serial t;
-      stamp = places-in (q .stamps) i n a (omega arith) t;
-      word = places-in (q .words) i n a (omega arith) t;
-    }
+order-at q i n a b = λ t. record {
+  lane = sym (order-lane i n a b) t;
+  serial = sym (order-serial i n a b) t;
+  stamp = placesView (q .stamps) i n;
+  word = placesView (q .words) i n;
+}
 
 -- members of a list of orders made from places
 mem-orders : (f : ℕ → Order) (x : ℕ) (l : List ℕ) → Mem x l → Mem (f x) (map f l)
@@ -119,10 +115,6 @@ due-apart R P c = apart-those (passes R P) (takenBelow P 8) (apart-taken P c 8 (
 
 -- a record, and roles that agree with it on the sources
 module _ (q : posts.Post) (s : Shaped q) (v : Valid q) (R : Roles) (sources : (i : ℕ) → i < 8 → R .source i ≡ isSource q i) where
-  -- the entry at the last order taken from a lane
-  last-entry : (i : ℕ) → i < 8 → postView q .table i (lastOf q i) ≡ stampUnder (q .table) i (lastOf q i)
-  last-entry i l = table-in (q .table) i (lastOf q i) (omega (arith, v .last i l))
-
   -- a place is in the log where its order is
   has-log : (place : ℕ) → has (place / 16) (place % 16 + 1) (ordersLogged q) ≡ true → isLogged q place ≡ true
   has-log place e =
@@ -141,7 +133,7 @@ module _ (q : posts.Post) (s : Shaped q) (v : Valid q) (R : Roles) (sources : (i
       (mem-due R (postView q) (place / 16) (place % 16 + 1) (omega arith) (omega arith)
       (omega (arith, ltb-true (place % 16) (lastOf q (place / 16)) (d .taken)))
       (le-ready R (postView q) (postView q .stamps (place / 16) (place % 16 + 1))
-      (λ i l r. rw (← place-view (q .stamps) place, last-entry i l) (d .agreed i l (sym (sources i l) ∙ r))))
+      (λ i l r. rw (← place-view (q .stamps) place) (d .agreed i l (sym (sources i l) ∙ r))))
       (new (d .unlogged) (true-or-false there)))
     where
       there : Bool
@@ -155,12 +147,12 @@ module _ (q : posts.Post) (s : Shaped q) (v : Valid q) (R : Roles) (sources : (i
   due-place : (x : Order) → Mem x (due R (postView q)) → Mem x (map (orderAt q) (duePlaces q))
   due-place x m =
       rw is (mem-orders (orderAt q) place (duePlaces q)
-      (due-places q place (omega (arith, few, t .laneBelow))
+      (due-places q place (order-inside (x .lane) (x .serial) (t .laneBelow) (t .serialFromOne) few)
       (due-is q place (record {
         taken = taken;
         unlogged = new (true-or-false (isLogged q place));
         agreed = λ i l r.
-            rw (last-entry i l, ap (λ (o : Order). o .stamp) is) at
+            rw (ap (λ (o : Order). o .stamp) is) at
             (ready-le R (postView q) (x .stamp) (due-ready R (postView q) x m) i l (sources i l ∙ r));
       }))))
     where
@@ -177,10 +169,7 @@ module _ (q : posts.Post) (s : Shaped q) (v : Valid q) (R : Roles) (sources : (i
       is = t .asKept ∙ order-at q (x .lane) (x .serial) (t .serialFromOne) few
 
       taken : isTaken q place ≡ true
-      taken =
-          let lane : place / 16 ≡ x .lane = omega (arith, few, t .serialFromOne) in
-          let serial : place % 16 ≡ x .serial - 1 = omega (arith, few, t .serialFromOne) in
-          rw (lane, serial) (lt-ltb (x .serial - 1) (lastOf q (x .lane)) (omega (arith, t .serialTaken, t .serialFromOne)))
+      taken = order-taken q (x .lane) (x .serial) (t .serialFromOne) few (t .serialTaken)
 
       new : (isLogged q place ≡ true) ⊎ (isLogged q place ≡ false) → isLogged q place ≡ false
       new (inl e) =
@@ -218,7 +207,7 @@ module _ (q : posts.Post) (s : Shaped q) (v : Valid q) (R : Roles) (sources : (i
     clock = q .clock .0;
     own = q .serial .0;
     last = λ i. lastOf q i;
-    table = tableView (q .table);
+    table = stampUnder (q .table);
     stamps = placesView (q .stamps);
     words = placesView (q .words);
     log = log-delivered d c t;

@@ -10,14 +10,15 @@ use lib.ListN.{length, getD, List·getD-eq-default}
 use borrow.Author.Tests.{ltb-true, ltb-false, leb-true, le-leb, eq-eqb, ne-eqb}
 use Rattle.frame.specs.Layout.{noEntry}
 use Rattle.frame.specs.declared.Entry.{Entry}
+use Rattle.cells.specs.Tables.{stampUnder}
 use Rattle.post.specs.declared.Post.{Post}
 use Rattle.post.specs.Newest.{newer, newestBelow, newestEntries, orderFrame, beaconFrame}
 use Rattle.laws.proofs.TestLaws.{below-or-not}
 use Rattle.laws.proofs.NewestLaws.{newest-entry}
 use Rattle.laws.proofs.Valid.{Shaped}
 use Rattle.model.proofs.Model.{best, newestStamp, newestSerial, entriesFrame, noOrder}
-use Rattle.agreement.proofs.Views.{postView, frameView, tableView}
-use Rattle.agreement.proofs.ArrayViews.{serialsOf, stampsOf, table-in, table-past}
+use Rattle.agreement.proofs.Views.{postView, frameView}
+use Rattle.agreement.proofs.ArrayViews.{serialsOf, stampsOf, table-past}
 
 -- ---- the newest entry of a lane
 
@@ -55,23 +56,23 @@ says-next T k old e h false true p q =
 says-next T k old e h false false p q = h
 
 -- so for the serials of a table: the first
-newer-first : (t : List ℕ) (i : ℕ) → Says (tableView t i) 0 (newer t i 0 noEntry)
+newer-first : (t : List ℕ) (i : ℕ) → Says (stampUnder t i) 0 (newer t i 0 noEntry)
 unfolding newer
-newer-first t i = rw (← table-in t i 0 (omega arith)) (says-first (tableView t i) (ltb 0 (tableView t i 0)) refl)
+newer-first t i = says-first (stampUnder t i) (ltb 0 (stampUnder t i 0)) refl
 
 -- and one more
-newer-next : (t : List ℕ) (i k old : ℕ) (e : Entry) → suc k < 17 → Says (tableView t i) old e
-    → Says (tableView t i) (cond (leb (tableView t i old) (tableView t i (suc k))) (suc k) old) (newer t i (suc k) e)
+newer-next : (t : List ℕ) (i k old : ℕ) (e : Entry) → Says (stampUnder t i) old e
+    → Says (stampUnder t i) (cond (leb (stampUnder t i old) (stampUnder t i (suc k))) (suc k) old) (newer t i (suc k) e)
 unfolding newer
-newer-next t i k old e h p =
-    let T : ℕ → ℕ = tableView t i in
-    rw (← table-in t i (suc k) h, ← (p .0)) (says-next T k old e p (ltb 0 (T (suc k))) (leb (e .stamp .0) (T (suc k))) refl refl)
+newer-next t i k old e p =
+    let T : ℕ → ℕ = stampUnder t i in
+    rw (← (p .0)) (says-next T k old e p (ltb 0 (T (suc k))) (leb (e .stamp .0) (T (suc k))) refl refl)
 
 -- the newest entry of the serials up to k
-newest-best : (t : List ℕ) (i k : ℕ) → k < 17 → Says (tableView t i) (best (tableView t i) k) (newestBelow t i (suc k))
+newest-best : (t : List ℕ) (i k : ℕ) → Says (stampUnder t i) (best (stampUnder t i) k) (newestBelow t i (suc k))
 unfolding best newestBelow
-newest-best t i zero h = newer-first t i
-newest-best t i (suc k) h = newer-next t i k (best (tableView t i) k) (newestBelow t i (suc k)) h (newest-best t i k (omega arith))
+newest-best t i zero = newer-first t i
+newest-best t i (suc k) = newer-next t i k (best (stampUnder t i) k) (newestBelow t i (suc k)) (newest-best t i k)
 
 -- ---- the entries of a broadcast
 
@@ -81,19 +82,19 @@ unfolding newestEntries
 entry-past t i h = List·getD-eq-default (newestEntries t) noEntry {n = i} h
 
 -- each lane's entry is the model's newest entry
-entry-best : (t : List ℕ) (i : ℕ) → length t ≡ 136 → Says (tableView t i) (best (tableView t i) 16) (getD (newestEntries t) i noEntry)
+entry-best : (t : List ℕ) (i : ℕ) → length t ≡ 136 → Says (stampUnder t i) (best (stampUnder t i) 16) (getD (newestEntries t) i noEntry)
 entry-best t i e = go (below-or-not i 8)
   where
-    go : (i < 8) ⊎ (8 ≤ i) → Says (tableView t i) (best (tableView t i) 16) (getD (newestEntries t) i noEntry)
-    go (inl l) = rw (newest-entry t i l) (newest-best t i 16 (omega arith))
-    go (inr l) = rw (entry-past t i l, table-past t i (best (tableView t i) 16) e l) (refl, refl)
+    go : (i < 8) ⊎ (8 ≤ i) → Says (stampUnder t i) (best (stampUnder t i) 16) (getD (newestEntries t) i noEntry)
+    go (inl l) = rw (newest-entry t i l) (newest-best t i 16)
+    go (inr l) = rw (entry-past t i l, table-past t i (best (stampUnder t i) 16) e l) (refl, refl)
 
 -- the serials of all entries
-pub entry-serials : (t : List ℕ) → length t ≡ 136 → serialsOf (newestEntries t) ≡ (λ (i : ℕ). newestSerial (tableView t i))
+pub entry-serials : (t : List ℕ) → length t ≡ 136 → serialsOf (newestEntries t) ≡ (λ (i : ℕ). newestSerial (stampUnder t i))
 entry-serials t e = fun-ext (λ i. entry-best t i e .1)
 
 -- and their stamps
-pub entry-stamps : (t : List ℕ) → length t ≡ 136 → stampsOf (newestEntries t) ≡ (λ (i : ℕ). newestStamp (tableView t i))
+pub entry-stamps : (t : List ℕ) → length t ≡ 136 → stampsOf (newestEntries t) ≡ (λ (i : ℕ). newestStamp (stampUnder t i))
 entry-stamps t e = fun-ext (λ i. entry-best t i e .0)
 
 -- ---- the frames

@@ -9,7 +9,7 @@ use borrow.Author.Tests.{lt-ltb, le-ltb, eq-eqb, ne-eqb}
 use Rattle.frame.specs.declared.Frame.{Frame}
 use Rattle.frame.specs.Refusals.{readRefusal}
 use Rattle.frame.specs.Layout.{noFrame}
-use Rattle.air.specs.Air.{stretchAt, airWith}
+use Rattle.air.specs.Air.{stretchAt, framesWith}
 use Rattle.post.specs.declared.Post.{Post}
 use Rattle.post.specs.Record.{lastOf}
 use Rattle.steps.specs.Refusals.{notInYard, isNext, hearRefusal}
@@ -114,7 +114,7 @@ module _ (w : World) (lane k : ℕ) (h : Hearing w lane k) where
       rw (eq-eqb (length (w .air)) 65536 (h .whole), lt-ltb k (w .yard .frames) (h .onAir), lt-ltb k 2048 (h .room), h .readable)
 
   hear-airs : postHearsAir (w .air) (postAt (w .yard) lane) (w .yard .frames) k
-      ≡ airWith (w .air) (w .yard .frames) (hearStep (postAt (w .yard) lane) (frameAt (w .air) k) .frame)
+      ≡ framesWith (w .air) (w .yard .frames) (hearStep (postAt (w .yard) lane) (frameAt (w .air) k) .frame)
   unfolding postHearsAir
   hear-airs =
       rw (eq-eqb (length (w .air)) 65536 (h .whole), lt-ltb k (w .yard .frames) (h .onAir), lt-ltb k 2048 (h .room), h .readable)
@@ -145,7 +145,7 @@ module _ (w : World) (lane k : ℕ) (h : Hearing w lane k) where
   pub hear-spoken : w .yard .frames < 2048 → Sendable (hearStep (postAt (w .yard) lane) (frameAt (w .air) k) .frame)
       → single w (hear lane k) ≡ record {
         yard = withPost (w .yard) lane (hearStep (postAt (w .yard) lane) (frameAt (w .air) k) .post) (w .yard .frames + 1);
-        air = airWith (w .air) (w .yard .frames) (hearStep (postAt (w .yard) lane) (frameAt (w .air) k) .frame);
+        air = framesWith (w .air) (w .yard .frames) (hearStep (postAt (w .yard) lane) (frameAt (w .air) k) .frame);
       }
   unfolding single yardHears yardHearsAir
   hear-spoken r s =

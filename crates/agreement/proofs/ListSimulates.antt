@@ -1,8 +1,7 @@
 -- Lists of single steps, and the roll call's own list, do what the model's do, as long as the model keeps an invariant. Assumes nothing.
 use mathlib.Core.Path.{_≡_, refl, sym, ap, _∙_, subst}
 use mathlib.Core.List.{List, [], _∷_}
-use Prim.Native.Nat.{ℕ, _≤_}
-use Rattle.yard.specs.Yards.{postAt}
+use Prim.Native.Nat.{ℕ}
 use Rattle.yard.specs.Worlds.{World, Single, single, singles}
 use Rattle.roll.specs.RollCall.{postsHear, rollSteps}
 use Rattle.model.proofs.Model as model
@@ -56,13 +55,10 @@ module _ (present sources dests : ℕ) where
     unfolding rollSteps model.rollSteps
     roll-same w s g =
         rw (
-          posts-same present sources dests w 8 (s .itsPresent) few,
+          posts-same present sources dests w 8 (s .itsPresent),
           ap (λ (Y : model.Yard). Y .frames) (list-simulates w s g (model.postsHear R (yardView w) 8) .view),
           s .itsPresent,
           s .itsSources,
           beacons-same present sources dests 8,
           posts-heard-same present sources dests (model.run R (yardView w) (model.postsHear R (yardView w) 8) .frames) 8,
         )
-      where
-        few : (q : ℕ) → postAt (w .yard) q .serial .0 ≤ 16
-        few q = fits (yardView w) g .ok .selves q .ownAtMost

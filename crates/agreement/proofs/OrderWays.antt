@@ -7,7 +7,7 @@ use lib.ListN.{length, set}
 use lib.Seq.{set-getD}
 use borrow.Author.Tests.{lt-ltb, le-ltb, eq-eqb, ne-eqb}
 use Rattle.frame.specs.declared.Frame.{Frame}
-use Rattle.air.specs.Air.{airWith}
+use Rattle.air.specs.Air.{framesWith}
 use Rattle.cells.specs.Tables.{orderPlace}
 use Rattle.post.specs.declared.Post.{Post}
 use Rattle.post.specs.Taking.{kept, ticked, ownTaken}
@@ -78,7 +78,7 @@ orderedWorld w lane q f serial = record {
     beacons = w .yard .beacons;
     first = set (w .yard .first) (orderPlace lane serial) (w .yard .frames);
   };
-  air = airWith (w .air) (w .yard .frames) f;
+  air = framesWith (w .air) (w .yard .frames) f;
 }
 
 -- an order that is sent
@@ -114,7 +114,7 @@ order-posts w lane word b e r s =
 
 order-airs : (w : World) (lane word : ℕ) → word ≤ 65535 → length (w .air) ≡ 65536
     → postOrdersAir (w .air) (postAt (w .yard) lane) (w .yard .frames) word
-    ≡ airWith (w .air) (w .yard .frames) (orderStep (postAt (w .yard) lane) word .frame)
+    ≡ framesWith (w .air) (w .yard .frames) (orderStep (postAt (w .yard) lane) word .frame)
 unfolding postOrdersAir
 order-airs w lane word b e = rw (le-ltb 65535 word b, eq-eqb (length (w .air)) 65536 e)
 

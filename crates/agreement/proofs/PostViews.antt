@@ -12,7 +12,8 @@ use borrow.Author.Tests.{ltb-true}
 use Rattle.frame.specs.declared.Frame.{Frame}
 use Rattle.frame.specs.Types.{Typed}
 use Rattle.frame.specs.Refusals.{frameRefusal}
-use Rattle.cells.specs.Tables.{orderPlace, withStamp}
+use Rattle.cells.specs.Tables.{stampUnder, withStamp, orderPlace}
+use Rattle.cells.proofs.Places.{order-lane, order-serial}
 use Rattle.post.specs.declared.Post.{Post}
 use Rattle.post.specs.Record.{isSource, lastOf, withClock, freshPost}
 use Rattle.post.specs.Newest.{raisedBelow}
@@ -31,7 +32,7 @@ use Rattle.laws.proofs.Accepted.{GoodOrder, accepted}
 use Rattle.laws.proofs.Hearable.{next-is}
 use Rattle.model.proofs.Functions.{upd, upd2}
 use Rattle.model.proofs.Model as model
-use Rattle.agreement.proofs.Views.{postView, frameView, tableView, placesView}
+use Rattle.agreement.proofs.Views.{postView, frameView, placesView}
 use Rattle.agreement.proofs.ArrayViews.{last-set, table-set, serialsOf, stampsOf, table-raised, places-set, last-zeros, table-zeros, places-zeros}
 
 -- ---- the log while an order is taken
@@ -44,9 +45,9 @@ map-same f g (x ∷ l) h = rw (h x (inl refl), map-same f g l (λ y m. h y (inr 
 -- the next order of a lane is not yet taken
 not-yet : (p : Post) (q n place : ℕ) → n ≡ lastOf p q + 1 → n ≤ 16 → isTaken p place ≡ true → place ≢ orderPlace q n
 not-yet p q n place e b t k =
-    let lane : place / 16 ≡ q = omega arith in
+    let lane : place / 16 ≡ q = rw k (order-lane q n (omega arith) b) in
     let below : place % 16 < lastOf p (place / 16) = ltb-true (place % 16) (lastOf p (place / 16)) t in
-    omega (arith, ap (lastOf p) lane)
+    omega (arith, ap (lastOf p) lane, order-serial q n (omega arith) b)
 
 -- so the orders in the log stay as they are when it is kept
 kept-log : (p : Post) (clock serial : ℕ) (table : List ℕ) (q n stamp word : ℕ) → Shaped p → Valid p → n ≡ lastOf p q + 1 → n ≤ 16
@@ -125,7 +126,7 @@ view-taken p f s v z c n R r = rw r (go (isSource p (p .lane)))
     table = raisedBelow (p .table) (f .entries) 8
 
     raised : ℕ → ℕ → ℕ
-    raised = model.raise (tableView (p .table)) (serialsOf (f .entries)) (stampsOf (f .entries))
+    raised = model.raise (stampUnder (p .table)) (serialsOf (f .entries)) (stampsOf (f .entries))
 
     clock : ℕ
     clock = max (p .clock .0) (f .stamp .0) + 1
@@ -135,13 +136,13 @@ view-taken p f s v z c n R r = rw r (go (isSource p (p .lane)))
     q = kept (raisedPost p f) (f .lane) (f .serial .0) (f .stamp .0) (f .word)
 
     -- the table after the entries, and after the own entry too
-    heard : tableView table ≡ raised
+    heard : stampUnder table ≡ raised
     heard = table-raised (p .table) (f .entries) (s .table) (c .count) (accepted f z .serials)
 
     long : length table ≡ 136
     long = all-raised-length (p .table) (f .entries) 8 ∙ s .table
 
-    own : tableView (withStamp table (p .lane) (p .serial .0) clock) ≡ upd2 raised (p .lane) (p .serial .0) (suc (max (p .clock .0) (f .stamp .0)))
+    own : stampUnder (withStamp table (p .lane) (p .serial .0) clock) ≡ upd2 raised (p .lane) (p .serial .0) (suc (max (p .clock .0) (f .stamp .0)))
     own =
         table-set table (p .lane) (p .serial .0) clock long (v .lane) (omega (arith, v .serial))
         ∙ rw (add-one (max (p .clock .0) (f .stamp .0)), heard)

@@ -1,7 +1,7 @@
 -- The roll call's list of single steps is the model's list, and S and N are counts of ones. Assumes nothing.
 use mathlib.Core.Path.{_≡_, refl, sym, ap, _∙_}
 use mathlib.Core.Bool.{Bool, true, false, cond}
-use Prim.Native.Nat.{ℕ, zero, suc, _+_, _/_, _%_, _^_, _<_, _≤_}
+use Prim.Native.Nat.{ℕ, zero, suc, _+_, _/_, _%_, _^_, _<_}
 use native.Mathlib.Omega.{arith}
 use lib.Dec.{eqb}
 use lib.Count.{ones, onesIn, ones-step}
@@ -12,29 +12,27 @@ use Rattle.yard.specs.Worlds.{World}
 use Rattle.roll.specs.RollCall.{laneHears, lanesHears, postsHear, beaconsSent, sourcesBelow, beaconsHeard, postsHearBeacons}
 use Rattle.model.proofs.Model as model
 use Rattle.agreement.proofs.Views.{rolesOf, yardView}
-use Rattle.agreement.proofs.ArrayViews.{places-in}
 
 -- ---- the first frames
 
-lane-same : (w : World) (p q n : ℕ) → n ≤ 16 → laneHears (w .yard .first) p q n ≡ model.laneHears (yardView w) p q n
+lane-same : (w : World) (p q n : ℕ) → laneHears (w .yard .first) p q n ≡ model.laneHears (yardView w) p q n
 unfolding laneHears model.laneHears
-lane-same w p q zero h = refl
-lane-same w p q (suc n) h = rw (lane-same w p q n (omega arith), places-in (w .yard .first) q (suc n) (omega arith) (omega arith))
+lane-same w p q zero = refl
+lane-same w p q (suc n) = rw (lane-same w p q n)
 
-lanes-same : (w : World) (p k : ℕ) → ((q : ℕ) → postAt (w .yard) q .serial .0 ≤ 16) → lanesHears (w .yard) p k ≡ model.lanesHears (yardView w) p k
+lanes-same : (w : World) (p k : ℕ) → lanesHears (w .yard) p k ≡ model.lanesHears (yardView w) p k
 unfolding lanesHears model.lanesHears
-lanes-same w p zero h = refl
-lanes-same w p (suc q) h = rw (lanes-same w p q h, lane-same w p q (postAt (w .yard) q .serial .0) (h q))
+lanes-same w p zero = refl
+lanes-same w p (suc q) = rw (lanes-same w p q, lane-same w p q (postAt (w .yard) q .serial .0))
 
 module _ (present sources dests : ℕ) where
   abbrev R : model.Roles
   R = rolesOf present sources dests
 
-  pub posts-same : (w : World) (k : ℕ) → w .yard .present ≡ present → ((q : ℕ) → postAt (w .yard) q .serial .0 ≤ 16)
-      → postsHear (w .yard) k ≡ model.postsHear R (yardView w) k
+  pub posts-same : (w : World) (k : ℕ) → w .yard .present ≡ present → postsHear (w .yard) k ≡ model.postsHear R (yardView w) k
   unfolding postsHear model.postsHear
-  posts-same w zero e h = refl
-  posts-same w (suc p) e h = rw (posts-same w p e h, lanes-same w p 8 h, e)
+  posts-same w zero e = refl
+  posts-same w (suc p) e = rw (posts-same w p e, lanes-same w p 8, e)
 
   -- ---- the beacons
 

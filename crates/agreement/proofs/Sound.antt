@@ -10,7 +10,7 @@ use lib.Seq.{getD-set-same, getD-set-other}
 use Rattle.frame.specs.declared.Frame.{Frame}
 use Rattle.frame.specs.Refusals.{readRefusal}
 use Rattle.frame.specs.Layout.{frameOf}
-use Rattle.air.specs.Air.{stretchAt, airWith}
+use Rattle.air.specs.Air.{stretchAt, framesWith}
 use Rattle.post.specs.declared.Post.{Post}
 use Rattle.post.specs.Record.{isSource, lastOf}
 use Rattle.post.specs.Taking.{kept, ticked, ownTaken, raisedPost, taken}
@@ -109,10 +109,10 @@ pub record OnAir (air : List ℕ) (k : ℕ) : Type 0 where
 
 -- the frames before a broadcast stay, and it is one more
 pub on-air-more : (air : List ℕ) (k : ℕ) (f : Frame) → length air ≡ 65536 → k < 2048 → Sendable f → ((j : ℕ) → j < k → OnAir air j)
-    → (j : ℕ) → j < k + 1 → OnAir (airWith air k f) j
+    → (j : ℕ) → j < k + 1 → OnAir (framesWith air k f) j
 on-air-more air k f whole room s old j l = go (same-or-not j k)
   where
-    go : (j ≡ k) ⊎ (j ≢ k) → OnAir (airWith air k f) j
+    go : (j ≡ k) ⊎ (j ≢ k) → OnAir (framesWith air k f) j
     go (inl e) =
         rw e (record { sendable = rw (spoken-frame air k f whole room s) s; readable = spoken-read air k f whole room s })
     go (inr n) =

@@ -26,7 +26,6 @@ use Rattle.model.proofs.Moves as moving
 use Rattle.agreement.specs.Demand3.{freshWorld, AllAccepted, AfterRollCall, Demand3, Agreement}
 use Rattle.agreement.specs.YardFacts.{FirstFrame, YardFacts, Facts}
 use Rattle.agreement.proofs.Views.{rolesOf, placesView, airView, yardView}
-use Rattle.agreement.proofs.ArrayViews.{places-in}
 use Rattle.agreement.proofs.Sound.{Sound}
 use Rattle.agreement.proofs.RollViews.{count-sources, count-posts}
 use Rattle.agreement.proofs.ListSimulates.{list-accepted, roll-same}
@@ -152,10 +151,8 @@ module _ (present sources dests : ℕ) (air : List ℕ) (small : present < 256) 
     firsts steps o m =
         let g = good steps in
         let s = g .sentListed .listedSent o m in
-        let few : o .serial < 17 = omega (arith, s .wasSent, g .yardOk .selves (o .lane) .ownAtMost) in
-        rw (← places-in (run w steps .yard .first) (o .lane) (o .serial) (s .fromOne) few)
-        (first-frame R (run w steps) o (placesView (run w steps .yard .first) (o .lane) (o .serial)) (g .yardOk) s
-        (g .airOk .firstFrames (o .lane) (o .serial) (s .fromOne) (s .wasSent)))
+        first-frame R (run w steps) o (placesView (run w steps .yard .first) (o .lane) (o .serial)) (g .yardOk) s
+        (g .airOk .firstFrames (o .lane) (o .serial) (s .fromOne) (s .wasSent))
 
     pub holds : Demand3 present sources dests w
     holds = record {

@@ -1,5 +1,5 @@
 -- The yard of document 01 read as the model's yard: arrays as functions, bytes as frames. A proof device; nobody has to believe it. Assumes nothing.
-use mathlib.Core.Bool.{true, cond, not, _&&_}
+use mathlib.Core.Bool.{true, cond, not}
 use mathlib.Core.List.{List}
 use Prim.Native.Nat.{ℕ}
 use lib.Dec.{ltb}
@@ -21,19 +21,16 @@ use Rattle.model.proofs.Model.{Post, Frame, Roles, Yard, noOrder}
 abbrev pub rolesOf : ℕ → ℕ → ℕ → Roles
 rolesOf present sources dests = record { source = hasLane sources; dest = hasLane dests; present = hasLane present }
 
--- a serial of the table, and of the orders taken
-unfoldable pub tableView : List ℕ → ℕ → ℕ → ℕ
-tableView table i n = cond (ltb n 17) (stampUnder table i n) 0
-
-unfoldable pub placesView : List ℕ → ℕ → ℕ → ℕ
-placesView numbers i n = cond (ltb 0 n && ltb n 17) (getD numbers (orderPlace i n) 0) 0
+-- the number kept at order (i, n)
+abbrev pub placesView : List ℕ → ℕ → ℕ → ℕ
+placesView numbers i n = getD numbers (orderPlace i n) 0
 
 abbrev pub postView : posts.Post → Post
 postView p = record {
   clock = p .clock .0;
   own = p .serial .0;
   last = λ i. lastOf p i;
-  table = tableView (p .table);
+  table = stampUnder (p .table);
   stamps = placesView (p .stamps);
   words = placesView (p .words);
   log = ordersLogged p;

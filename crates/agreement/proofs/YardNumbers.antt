@@ -21,7 +21,6 @@ use Rattle.laws.proofs.Broadcasts.{Sendable}
 use Rattle.model.proofs.Model.{Frame}
 use Rattle.model.proofs.Invariants.{Posts, stampOf, Sent, FrameOk, YardOk, sends-source}
 use Rattle.agreement.proofs.Views.{rolesOf, frameView, yardView}
-use Rattle.agreement.proofs.ArrayViews.{places-in}
 use Rattle.agreement.proofs.Sound.{InYard, Sound}
 
 module _ (present sources dests : ℕ) where
@@ -71,14 +70,12 @@ module _ (present sources dests : ℕ) where
         let last : ℕ = lastOf p (f .lane) in
         let e : f .serial .0 ≡ suc last = k .1 ∙ add-one last in
         let own : last < W (f .lane) .own = omega (arith, o .wasSent) in
-        let full : last ≤ 16 = omega (arith, y .selves (f .lane) .ownAtMost) in
         omega (
           arith,
           o .stampIs,
           ap (stampOf W (f .lane)) e,
           y .selves (f .lane) .stampsRise last h own,
           y .postsOk lane .knows .stampsTrue (f .lane) last h (omega arith),
-          places-in (p .stamps) (f .lane) last h (omega arith),
         )
 
     -- what is on the air, and is not the post's own, can be heard

@@ -2,17 +2,17 @@
 use mathlib.Core.Path.{_≡_, refl, sym, _∙_}
 use mathlib.Core.Bool.{Bool, true, false, cond, _&&_}
 use mathlib.Core.List.{List, [], _++_}
-use Prim.Native.Nat.{ℕ, _*_, _≤_, _<_}
+use Prim.Native.Nat.{ℕ, _+_, _*_, _-_, _/_, _≤_, _<_, min}
 use native.Mathlib.Omega.{arith}
 use borrow.Author.Tests.{eq-eqb, ne-eqb, eqb-true, eqb-false, lt-ltb, le-ltb, ltb-true, not-false}
 use lib.Dec.{eqb, ltb}
 use lib.ListN.{length, take, drop, take-append-drop, length-take, length-drop}
 use Rattle.frame.specs.Layout.{bytesOf}
-use Rattle.frame.specs.Refusals.{frameRefusal}
+use Rattle.frame.specs.Refusals.{badLength, frameRefusal}
 use Rattle.frame.specs.ReadWrite.{writeRefusal, written}
 use Rattle.frame.specs.declared.Frame.{Frame}
-use Rattle.frame.proofs.Laws.{passed, write-judges, written-good, written-bad}
-use Rattle.air.specs.Air.{badAir, notOnAir, stretchAt, placeRefusal, placed, airWith}
+use Rattle.frame.proofs.Laws.{passed, is-32, not-32, written-good, written-bad}
+use Rattle.air.specs.Air.{badAir, notOnAir, stretchAt, placeRefusal, placed, framesWith}
 use Rattle.air.specs.Stretch.{stretchRefusal, stretchOf}
 
 -- the ways through `refusal`
@@ -54,71 +54,59 @@ pub stretch-empty : (air : List ℕ) (frames k n : ℕ) → n ≡ stretchRefusal
 unfolding stretchOf
 stretch-empty air frames k n e z = rw (← e, ne-eqb n 0 z)
 
--- a refusal keeps the air
-pub kept-air : (air : List ℕ) (k : ℕ) (f : Frame) → (placeRefusal air k f ≡ 0 → ⊥) → airWith air k f ≡ air
-unfolding airWith
-kept-air air k f h = rw (ne-eqb (placeRefusal air k f) 0 h)
+-- the 32 bytes at 32 × k, where there are so many
+stretch-full : (bytes : List ℕ) (k : ℕ) → 32 * k + 32 ≤ length bytes → length (stretchAt bytes k) ≡ 32
+stretch-full bytes k r = simp (length-take, length-drop) (omega arith)
 
-refused-keeps : (air : List ℕ) (k n : ℕ) (f : Frame) → n ≡ placeRefusal air k f → (n ≡ 0 → ⊥)
-    → (n ≡ placeRefusal air k f) × (air ≡ airWith air k f)
-refused-keeps air k n f e h = (e, sym (kept-air air k f (λ z. h (e ∙ z))))
-
--- the ways through `write`
-pub write-no-place : (air : List ℕ) (k : ℕ) (f : Frame) → 2048 ≤ k → (6 ≡ placeRefusal air k f) × (air ≡ airWith air k f)
-unfolding placeRefusal
-write-no-place air k f h = refused-keeps air k 6 f (simp (le-ltb k 2048 h)) (λ z. omega arith)
-
-pub write-bad : (air : List ℕ) (k n : ℕ) (f : Frame) → k < 2048 → n ≡ frameRefusal f → (n ≡ 0 → ⊥)
-    → (n ≡ placeRefusal air k f) × (air ≡ airWith air k f)
-unfolding placeRefusal
-write-bad air k n f h e z = refused-keeps air k n f (simp (lt-ltb k 2048 h, ← e, ne-eqb n 0 z)) z
-
-pub write-short-air : (air : List ℕ) (k n : ℕ) (f : Frame) → k < 2048 → n ≡ frameRefusal f → n ≡ 0 → (length air ≡ 65536 → ⊥)
-    → (13 ≡ placeRefusal air k f) × (air ≡ airWith air k f)
-unfolding placeRefusal
-write-short-air air k n f h e z l =
-    refused-keeps air k 13 f (simp (lt-ltb k 2048 h, ← e, z, ne-eqb (length air) 65536 l)) (λ q. omega arith)
-
-pub write-good : (air : List ℕ) (k : ℕ) (f : Frame) → length air ≡ 65536 → k < 2048 → frameRefusal f ≡ 0
-    → (placeRefusal air k f ≡ 0) × (airWith air k f ≡ placed air k (bytesOf f))
-unfolding airWith placeRefusal
-write-good air k f l h z = go (simp (lt-ltb k 2048 h, z, eq-eqb (length air) 65536 l))
-  where
-    go : placeRefusal air k f ≡ 0 → (placeRefusal air k f ≡ 0) × (airWith air k f ≡ placed air k (bytesOf f))
-    go e = (e, rw e)
-
-pub stretch-length : (air : List ℕ) (k : ℕ) → length air ≡ 65536 → k < 2048 → length (stretchAt air k) ≡ 32
-stretch-length air k l h = simp (length-take, length-drop) (omega arith)
-
--- what the frame writer does to the part that it is lent, said of the whole air
-pub write-part : (air part exit : List ℕ) (k n : ℕ) (f : Frame) → length air ≡ 65536 → k < 2048 → part ≡ stretchAt air k
-    → n ≡ writeRefusal part f → exit ≡ written part f
-    → (n ≡ placeRefusal air k f) × (take (32 * k) air ++ (exit ++ drop 32 (drop (32 * k) air)) ≡ airWith air k f)
-unfolding placed
-write-part air part exit k n f l h p e w = go (eqb (frameRefusal f) 0) refl
-  where
-    judged : writeRefusal part f ≡ frameRefusal f
-    judged = write-judges part f (rw p (stretch-length air k l h))
-
-    go : (b : Bool) → eqb (frameRefusal f) 0 ≡ b
-        → (n ≡ placeRefusal air k f) × (take (32 * k) air ++ (exit ++ drop 32 (drop (32 * k) air)) ≡ airWith air k f)
-    go true q =
-        let z : frameRefusal f ≡ 0 = eqb-true (frameRefusal f) 0 q in
-        let g = write-good air k f l h z in
-        (e ∙ judged ∙ z ∙ sym (g .0), rw (w, written-good part f (judged ∙ z)) (sym (g .1)))
-    go false q =
-        let ne : n ≡ 0 → ⊥ = λ z. eqb-false (frameRefusal f) 0 q (sym judged ∙ sym e ∙ z) in
-        let b = write-bad air k n f h (e ∙ judged) ne in
-        (b .0, rw (w, written-bad part f (λ z. ne (e ∙ z)), p, take-append-drop 32 (drop (32 * k) air), take-append-drop (32 * k) air) (b .1))
+full-room : (bytes : List ℕ) (k : ℕ) → length (stretchAt bytes k) ≡ 32 → 32 * k + 32 ≤ length bytes
+full-room bytes k e = let m : min 32 (length bytes - 32 * k) ≡ 32 = simp (length-take, length-drop) at e in omega arith
 
 -- what a place that is not refused has
-pub has-place : (air : List ℕ) (k : ℕ) (f : Frame) → placeRefusal air k f ≡ 0 → (k < 2048) × (frameRefusal f ≡ 0) × (length air ≡ 65536)
+pub has-place : (bytes : List ℕ) (k : ℕ) (f : Frame) → placeRefusal bytes k f ≡ 0 → (32 * k + 32 ≤ length bytes) × (frameRefusal f ≡ 0)
 unfolding placeRefusal
-has-place air k f h = go (ltb k 2048) refl (eqb (frameRefusal f) 0) refl
+has-place bytes k f h =
+    let p = passed (badLength (stretchAt bytes k)) 6 (frameRefusal f) (omega arith) h in
+    (full-room bytes k (eqb-true (length (stretchAt bytes k)) 32 (not-false _ (p .0))), p .1)
+
+-- where there is room the frame alone is judged, and what is good is written
+pub place-judges : (bytes : List ℕ) (k : ℕ) (f : Frame) → 32 * k + 32 ≤ length bytes → placeRefusal bytes k f ≡ frameRefusal f
+unfolding placeRefusal
+place-judges bytes k f r = is-32 (stretchAt bytes k) (frameRefusal f) (stretch-full bytes k r)
+
+pub write-good : (bytes : List ℕ) (k : ℕ) (f : Frame) → 32 * k + 32 ≤ length bytes → frameRefusal f ≡ 0
+    → (placeRefusal bytes k f ≡ 0) × (framesWith bytes k f ≡ placed bytes k (bytesOf f))
+unfolding framesWith
+write-good bytes k f r z = let e = place-judges bytes k f r ∙ z in (e, rw e)
+
+-- a refusal keeps the bytes
+pub kept-bytes : (bytes : List ℕ) (k : ℕ) (f : Frame) → (placeRefusal bytes k f ≡ 0 → ⊥) → framesWith bytes k f ≡ bytes
+unfolding framesWith
+kept-bytes bytes k f h = rw (ne-eqb (placeRefusal bytes k f) 0 h)
+
+refused-keeps : (bytes : List ℕ) (k n : ℕ) (f : Frame) → n ≡ placeRefusal bytes k f → (n ≡ 0 → ⊥)
+    → (n ≡ placeRefusal bytes k f) × (bytes ≡ framesWith bytes k f)
+refused-keeps bytes k n f e h = (e, sym (kept-bytes bytes k f (λ z. h (e ∙ z))))
+
+-- the ways through `write`
+pub write-no-place : (bytes : List ℕ) (k : ℕ) (f : Frame) → length bytes / 32 ≤ k → (6 ≡ placeRefusal bytes k f) × (bytes ≡ framesWith bytes k f)
+unfolding placeRefusal
+write-no-place bytes k f h =
+    refused-keeps bytes k 6 f (sym (not-32 (stretchAt bytes k) (frameRefusal f) (λ e. omega (arith, full-room bytes k e)))) (λ z. omega arith)
+
+-- what the frame writer does to the part that it is lent, said of all the bytes
+place-part : (bytes part : List ℕ) (k : ℕ) (f : Frame) → part ≡ stretchAt bytes k → writeRefusal part f ≡ placeRefusal bytes k f
+unfolding placeRefusal writeRefusal
+place-part bytes part k f p = rw p
+
+pub write-part : (bytes part exit : List ℕ) (k n : ℕ) (f : Frame) → part ≡ stretchAt bytes k → n ≡ writeRefusal part f → exit ≡ written part f
+    → (n ≡ placeRefusal bytes k f) × (take (32 * k) bytes ++ (exit ++ drop 32 (drop (32 * k) bytes)) ≡ framesWith bytes k f)
+unfolding placed framesWith
+write-part bytes part exit k n f p e w = (e ∙ judged, go (eqb (placeRefusal bytes k f) 0) refl)
   where
-    go : (a : Bool) → ltb k 2048 ≡ a → (b : Bool) → eqb (frameRefusal f) 0 ≡ b → (k < 2048) × (frameRefusal f ≡ 0) × (length air ≡ 65536)
-    go false p b q = let z : _≡_ {A = ℕ} 6 0 = rw p at h in absurd (omega arith)
-    go true p false q = let z : frameRefusal f ≡ 0 = rw (p, q) at h in absurd (eqb-false (frameRefusal f) 0 q z)
-    go true p true q =
-        let r : _≡_ {A = ℕ} (cond (badAir air) 13 0) 0 = rw (p, q) at h in
-        (ltb-true k 2048 p, eqb-true (frameRefusal f) 0 q, eqb-true (length air) 65536 (not-false _ (passed (badAir air) 13 0 (omega arith) r .0)))
+    judged : writeRefusal part f ≡ placeRefusal bytes k f
+    judged = place-part bytes part k f p
+
+    go : (b : Bool) → eqb (placeRefusal bytes k f) 0 ≡ b → take (32 * k) bytes ++ (exit ++ drop 32 (drop (32 * k) bytes)) ≡ framesWith bytes k f
+    go true q = rw (q, w, written-good part f (judged ∙ eqb-true (placeRefusal bytes k f) 0 q))
+    go false q =
+        rw (q, w, written-bad part f (λ z. eqb-false (placeRefusal bytes k f) 0 q (sym judged ∙ z)), p, take-append-drop 32 (drop (32 * k) bytes), take-append-drop (32 * k) bytes)

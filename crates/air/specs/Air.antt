@@ -1,11 +1,11 @@
--- The air, the record of all broadcasts: document 01, "Frames and the air". Assumes nothing.
+-- The air, the record of all broadcasts, and a frame written into lent bytes: document 01, "Frames and the air". Assumes nothing.
 use Prim.Native.Nat.{ℕ, _*_}
 use mathlib.Core.List.{List, _++_}
 use mathlib.Core.Bool.{Bool, cond, not, _&&_}
 use lib.ListN.{length, take, drop}
 use lib.Dec.{ltb, eqb}
 use Rattle.frame.specs.Layout.{bytesOf}
-use Rattle.frame.specs.Refusals.{frameRefusal}
+use Rattle.frame.specs.Refusals.{badLength, frameRefusal}
 use Rattle.frame.specs.declared.Frame.{Frame}
 
 -- 13. "Air not 65,536 bytes."
@@ -16,20 +16,20 @@ badAir air = not (eqb (length air) 65536)
 abbrev pub notOnAir : ℕ → ℕ → Bool
 notOnAir frames k = not (ltb k frames && ltb k 2048)
 
--- "frame k fills bytes 32×k to 32×k+31 of the air"
+-- "frame k fills bytes 32×k to 32×k+31 of the air", and so of other lent bytes
 abbrev pub stretchAt : List ℕ → ℕ → List ℕ
-stretchAt air k = take 32 (drop (32 * k) air)
+stretchAt bytes k = take 32 (drop (32 * k) bytes)
 
--- the refusal of a frame to be written as frame k: 6 where k is 2,048 or more,
--- which is past every air of 65,536 bytes, 7 to 11, 13, or 0
+-- ---- a frame written as frame k of lent bytes: of the air, or of a buffer, from frame 0 on
+
+-- 6 where they have no 32 bytes at 32 × k ("Frame, or the buffer for one, not 32 bytes"), 7 to 11 of the frame, or 0
 unfoldable pub placeRefusal : List ℕ → ℕ → Frame → ℕ
-placeRefusal air k f =
-    cond (not (ltb k 2048)) 6 (cond (not (eqb (frameRefusal f) 0)) (frameRefusal f) (cond (badAir air) 13 0))
+placeRefusal bytes k f = cond (badLength (stretchAt bytes k)) 6 (frameRefusal f)
 
--- the air with these bytes in the place of those from 32 × k on
+-- the bytes with those of a frame in the place of their own from 32 × k on
 unfoldable pub placed : List ℕ → ℕ → List ℕ → List ℕ
-placed air k bytes = take (32 * k) air ++ (bytes ++ drop 32 (drop (32 * k) air))
+placed bytes k frame = take (32 * k) bytes ++ (frame ++ drop 32 (drop (32 * k) bytes))
 
--- the air after f is written as frame k, or as it was where that is refused
-unfoldable pub airWith : List ℕ → ℕ → Frame → List ℕ
-airWith air k f = cond (eqb (placeRefusal air k f) 0) (placed air k (bytesOf f)) air
+-- the bytes after f is written as their frame k, or as they were where that is refused
+unfoldable pub framesWith : List ℕ → ℕ → Frame → List ℕ
+framesWith bytes k f = cond (eqb (placeRefusal bytes k f) 0) (placed bytes k (bytesOf f)) bytes

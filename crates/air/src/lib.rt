@@ -1,8 +1,9 @@
-// The air of document 01, "Frames and the air": 65,536 lent bytes, in which frame k fills bytes 32×k to 32×k+31.
+// The air of document 01, "Frames and the air": 65,536 lent bytes, in which frame k fills bytes 32×k to 32×k+31. So does a
+// frame that is written into other lent bytes, as a buffer for one broadcast.
 // The contracts cite specs/Air.antt and specs/Stretch.antt.
 use frame::Frame;
 ghost use mathlib.Core.Path.{_≡_};
-ghost use Rattle.air.specs.Air.{placeRefusal, airWith};
+ghost use Rattle.air.specs.Air.{placeRefusal, framesWith};
 ghost use Rattle.air.specs.Stretch.{stretchRefusal, stretchOf};
 
 pub const LENGTH: usize = 65536;
@@ -37,22 +38,15 @@ pub fn stretch(air: &[u8], frames: usize, k: usize) -> &[u8]
     }
 }
 
-// Writes f as frame k: 0, or the refusal 6 to 11 or 13 with the air as it was.
-pub fn write(air: &mut [u8], k: usize, f: Frame) -> u8
-    ensures number { λ r. ⌜ r ≡ placeRefusal (now (air .entry)) k f ⌝ }
-    ensures bytes { λ _. ⌜ now (air .exit) ≡ airWith (now (air .entry)) k f ⌝ }
+// Writes f as frame k of lent bytes, the air or a buffer: 0, or the refusal 6 to 11 with the bytes as they were.
+pub fn write(bytes: &mut [u8], k: usize, f: Frame) -> u8
+    ensures number { λ r. ⌜ r ≡ placeRefusal (now (bytes .entry)) k f ⌝ }
+    ensures bytes { λ _. ⌜ now (bytes .exit) ≡ framesWith (now (bytes .entry)) k f ⌝ }
 {
-    if k >= FRAMES {
+    if k >= bytes.len() / Frame::LENGTH {
         return 6;
-    }
-    if air.len() != LENGTH {
-        let refusal = f.refusal();
-        if refusal != 0 {
-            return refusal;
-        }
-        return 13;
     }
     let place = Frame::LENGTH * k;
     let end = place + Frame::LENGTH;
-    f.write(&mut air[place..end])
+    f.write(&mut bytes[place..end])
 }

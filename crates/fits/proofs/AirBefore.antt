@@ -11,12 +11,12 @@ use Rattle.lines.specs.declared.Line.the-variants.{Yard, Order, Hear, Beacon, R
 use Rattle.lines.specs.Lines.{lineAt}
 use Rattle.yard.specs.Yards.{freshYard, yardRefusal, yardMade}
 use Rattle.yard.specs.Worlds.{World, Single, order, hear, beacon, single, singles}
-use Rattle.yard.specs.declared.Yard as yards
-use Rattle.yard.specs.declared.FreshYard.{FreshYard}
-use Rattle.yard.specs.declared.YardOrdered.{YardOrdered}
-use Rattle.yard.specs.declared.YardHeard.{YardHeard}
-use Rattle.yard.specs.declared.YardBeaconed.{YardBeaconed}
-use Rattle.roll.specs.declared.RollCalled.{RollCalled}
+use Rattle.yard.specs.Yards as yards
+use Rattle.yard.specs.Yards.{FreshYard}
+use Rattle.yard.specs.Singles.{YardOrdered}
+use Rattle.yard.specs.Singles.{YardHeard}
+use Rattle.yard.specs.Singles.{YardBeaconed}
+use Rattle.roll.specs.RollCall.{RollCalled}
 use Rattle.roll.specs.RollCall.{postsHear, beaconsSent, postsHearBeacons, rollSteps, rollRefusal, rollCall, rollCallAir}
 use Rattle.roll.specs.Runs.{Step, one, roll, ordered, heard, beaconed, called, answer, step, run}
 use Rattle.roll.specs.Answers.{answerNumber}

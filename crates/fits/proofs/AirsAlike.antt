@@ -9,26 +9,23 @@ use lib.Dec.{ltb, eqb}
 use lib.ListN.{length}
 use borrow.Author.Tests.{ltb-true, eqb-true, ne-eqb}
 use Rattle.frame.specs.declared.Frame.{Frame}
-use Rattle.frame.specs.Layout.{bytesOf}
-use Rattle.frame.proofs.RoundTrip.{bytes-length}
-use Rattle.air.specs.Air.{badAir, notOnAir, stretchAt, placeRefusal, airWith}
-use Rattle.air.proofs.Laws.{write-good, has-place}
-use Rattle.air.proofs.Stretches.{placed-same, others-stay, length-stays}
+use Rattle.air.specs.Air.{badAir, notOnAir, stretchAt, placeRefusal, framesWith}
+use Rattle.air.proofs.Stretches.{same-stretch, length-stays, others-stay, frame-there}
 use Rattle.post.specs.declared.Post.{Post}
 use Rattle.steps.specs.Refusals.{notInYard}
 use Rattle.steps.specs.Steps.{orderStep, hearStep, beaconStep}
 use Rattle.steps.specs.declared.HearAnswer as hearings
-use Rattle.yard.specs.declared.Yard.{Yard}
+use Rattle.yard.specs.Yards.{Yard}
 use Rattle.yard.specs.Yards.{postAt}
 use Rattle.yard.specs.Singles.{framesAfter, stopsOrder, absentRefusal, stopsHearing, frameAt, stopsBeacon}
 use Rattle.yard.specs.Singles.{postOrders, postOrdersAir, postHears, postHearsAir, postBeacons, postBeaconsAir}
 use Rattle.yard.specs.Singles.{yardOrders, yardOrdersAir, yardHears, yardHearsAir, yardBeacons, yardBeaconsAir}
-use Rattle.yard.specs.declared.PostOrdered.{PostOrdered}
-use Rattle.yard.specs.declared.PostHeard.{PostHeard}
-use Rattle.yard.specs.declared.PostBeaconed.{PostBeaconed}
-use Rattle.yard.specs.declared.YardOrdered.{YardOrdered}
-use Rattle.yard.specs.declared.YardHeard.{YardHeard}
-use Rattle.yard.specs.declared.YardBeaconed.{YardBeaconed}
+use Rattle.yard.specs.Singles.{PostOrdered}
+use Rattle.yard.specs.Singles.{PostHeard}
+use Rattle.yard.specs.Singles.{PostBeaconed}
+use Rattle.yard.specs.Singles.{YardOrdered}
+use Rattle.yard.specs.Singles.{YardHeard}
+use Rattle.yard.specs.Singles.{YardBeaconed}
 use Rattle.laws.proofs.TestLaws.{same-or-not, not-both, and-parts}
 
 abbrev pub Alike : ℕ → List ℕ → List ℕ → Type 0
@@ -39,7 +36,7 @@ Alike frames a b = (length a ≡ length b) × ((k : ℕ) → k < frames → k < 
 -- there is room for it on both airs or on neither
 place-alike : (a b : List ℕ) (n : ℕ) (f : Frame) → length a ≡ length b → placeRefusal a n f ≡ placeRefusal b n f
 unfolding placeRefusal
-place-alike a b n f e = rw e refl
+place-alike a b n f e = rw (same-stretch a b n e) refl
 
 frames-alike : (a b : List ℕ) (n : ℕ) (f : Frame) → length a ≡ length b → framesAfter a n f ≡ framesAfter b n f
 unfolding framesAfter
@@ -58,18 +55,13 @@ one-more a n k f h = go (eqb (placeRefusal a n f) 0) refl h
         last (inr q) = inl (omega arith)
     go false e l = inl l
 
-stretch-there : (a : List ℕ) (n : ℕ) (f : Frame) → placeRefusal a n f ≡ 0 → stretchAt (airWith a n f) n ≡ bytesOf f
-stretch-there a n f z =
-    let p = has-place a n f z in
-    rw (write-good a n f (p .2) (p .0) (p .1) .1) (placed-same a n (bytesOf f) (p .2) (p .0) (bytes-length f))
-
-air-alike : (a b : List ℕ) (n : ℕ) (f : Frame) → Alike n a b → Alike (framesAfter a n f) (airWith a n f) (airWith b n f)
+air-alike : (a b : List ℕ) (n : ℕ) (f : Frame) → Alike n a b → Alike (framesAfter a n f) (framesWith a n f) (framesWith b n f)
 air-alike a b n f h =
     (length-stays a n f ∙ h .0 ∙ sym (length-stays b n f), λ k l r. go k r (one-more a n k f l))
   where
-    go : (k : ℕ) → k < 2048 → (k < n) ⊎ ((k ≡ n) × (placeRefusal a n f ≡ 0)) → stretchAt (airWith a n f) k ≡ stretchAt (airWith b n f) k
-    go k r (inl l) = others-stay a n k f r (λ e. omega arith) ∙ h .1 k l r ∙ sym (others-stay b n k f r (λ e. omega arith))
-    go k r (inr (e, z)) = rw e (stretch-there a n f z ∙ sym (stretch-there b n f (sym (place-alike a b n f (h .0)) ∙ z)))
+    go : (k : ℕ) → k < 2048 → (k < n) ⊎ ((k ≡ n) × (placeRefusal a n f ≡ 0)) → stretchAt (framesWith a n f) k ≡ stretchAt (framesWith b n f) k
+    go k r (inl l) = others-stay a n k f (λ e. omega arith) ∙ h .1 k l r ∙ sym (others-stay b n k f (λ e. omega arith))
+    go k r (inr (e, z)) = rw e (frame-there a n f z ∙ sym (frame-there b n f (sym (place-alike a b n f (h .0)) ∙ z)))
 
 -- two ways that a step can go
 pub either : {A : Type 0} (count : A → ℕ) (t : Bool) (x y : A) (a b c d : List ℕ) → Alike (count x) a b → Alike (count y) c d

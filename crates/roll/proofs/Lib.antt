@@ -1,4 +1,4 @@
-pub mod RunLaws
-pub mod PostTurns
-pub mod YardTurns
+pub mod Kept
+pub mod Turns
 pub mod Ways
+pub mod SoundCalls

@@ -1,7 +1,8 @@
 pub mod RollCall
-pub mod Loops
 pub mod Runs
 pub mod Logs
 pub mod Answers
 pub mod Taken
+pub mod Calls
 pub mod Values
+pub mod SoundCalls

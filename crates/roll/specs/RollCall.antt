@@ -8,11 +8,10 @@ use lib.ListN.{length, getD}
 use Rattle.air.specs.Air.{badAir}
 use Rattle.cells.specs.Sets.{hasLane}
 use Rattle.cells.specs.Tables.{orderPlace}
-use Rattle.yard.specs.declared.Yard.{Yard}
+use Rattle.yard.specs.Yards.{Yard}
 use Rattle.yard.specs.Yards.{postAt}
 use Rattle.yard.specs.Worlds.{World, Single, hear, beacon, singles}
 use Rattle.roll.specs.declared.RollAnswer as calling
-use Rattle.roll.specs.declared.RollCalled.{RollCalled}
 
 -- ---- "For each post in rising lane order: hear the first frame of every order of the other lanes, lane by lane, serials rising."
 
@@ -72,6 +71,11 @@ rollRefusal w =
     cond (badAir (w .air)) 13
     (cond (ltb (1024 - w .yard .beacons) (ones (w .yard .sources))) 27
     0)
+
+-- what a roll call answers, and the yard after it
+pub record RollCalled : Type 0 where
+  pub answer : calling.RollAnswer
+  pub yard : Yard
 
 -- "It does what this list of single steps does, run one after another, and returns the length of the list"
 unfoldable pub rollCall : World → RollCalled

@@ -1,58 +1,74 @@
--- The ways through `post_beacons` and `beacon`. Assumes nothing.
-use mathlib.Core.Path.{_≡_, sym, _∙_}
-use mathlib.Core.Bool.{Bool, cond, not}
+-- The ways through a beacon on a state. Assumes nothing.
+use mathlib.Core.Path.{_≡_, refl, sym, _∙_}
 use mathlib.Core.List.{List}
 use Prim.Native.Nat.{ℕ, _+_, _<_, _≤_}
 use native.Mathlib.Omega.{arith}
-use lib.Dec.{leb}
-use borrow.Author.Tests.{ne-eqb, leb-false, lt-ltb, le-ltb}
-use Rattle.frame.proofs.Laws.{passed}
-use Rattle.air.specs.Air.{badAir, airWith}
-use Rattle.cells.specs.Sets.{hasLane}
-use Rattle.post.specs.declared.Post.{Post}
+use lib.ListN.{length, getD, set, length-set}
+use borrow.Author.Tests.{ne-eqb, lt-ltb, le-ltb}
+use Rattle.air.specs.Air.{framesWith}
+use Rattle.row.specs.Rows.{putIn, postIn}
+use Rattle.row.proofs.Laws.{cell-apart}
 use Rattle.steps.specs.Steps.{beaconStep}
 use Rattle.steps.specs.declared.BeaconAnswer as beaconing
 use Rattle.steps.specs.declared.Beaconed.{Beaconed}
-use Rattle.yard.specs.Yards.{postAt}
-use Rattle.yard.specs.Singles.{framesAfter, postBeacons, postBeaconsAir, withBeacons, yardBeacons, yardBeaconsAir}
-use Rattle.yard.specs.declared.Yard.{Yard}
-use Rattle.yard.specs.declared.PostBeaconed.{PostBeaconed}
-use Rattle.yard.specs.declared.YardBeaconed.{YardBeaconed}
+use Rattle.yard.specs.Yards.{Yard, postAt}
+use Rattle.yard.specs.Singles.{framesAfter, stopsBeacon, withBeacons}
+use Rattle.yard.specs.States.{Held, whole, other, rowOf, yardIn, knownsIn, heldIn}
+use Rattle.yard.specs.InState.{After, after, beaconsIn}
+use Rattle.yard.proofs.YardLaws.{held-whole, held-other, at-yard, frames-in, beacons-in, lentRow, lent-is, beacons-yard, beacons-knowns, frames-held}
+use Rattle.yard.proofs.PartWays.{Sends}
 
--- where nothing refuses, fewer than 1,024 were sent
-pub beacons-left : (air : List ℕ) (here : Bool) (beacons n27 n21 n : ℕ) → n27 ≡ cond (leb 1024 beacons) 27 0 → n21 ≡ cond (not here) 21 n27
-    → n ≡ cond (badAir air) 13 n21 → n ≡ 0
-    → beacons < 1024
-beacons-left air here beacons n27 n21 n e27 e21 en z =
-    let a = passed (badAir air) 13 n21 (omega arith) (sym en ∙ z) in
-    let b = passed (not here) 21 n27 (omega arith) (sym e21 ∙ a .1) in
-    leb-false 1024 beacons (passed (leb 1024 beacons) 27 0 (omega arith) (sym e27 ∙ b .1) .0)
+-- refused: 4, 12, and what stops it
+over-7 : (h : Held) (air : List ℕ) (lane : ℕ) → 8 ≤ lane
+    → _≡_ {A = After beaconing.BeaconAnswer} (record { answer = beaconing.the-variants.Refused 4; held = h; air = air }) (beaconsIn h air lane)
+unfolding beaconsIn
+over-7 (whole y knowns) air lane l = rw (lt-ltb 7 lane l)
+over-7 (other cells) air lane l = rw (lt-ltb 7 lane l)
 
-pub post-beacon-refused : (air : List ℕ) (p : Post) (here : Bool) (frames beacons n27 n21 n : ℕ) → here ≡ hasLane (p .posts) (p .lane)
-    → n27 ≡ cond (leb 1024 beacons) 27 0 → n21 ≡ cond (not here) 21 n27 → n ≡ cond (badAir air) 13 n21 → (n ≡ 0 → ⊥)
-    → (_≡_ {A = PostBeaconed} (record { answer = beaconing.the-variants.Refused n; frames = frames; beacons = beacons }) (postBeacons air p frames beacons))
-    × (air ≡ postBeaconsAir air p frames beacons)
-unfolding postBeacons postBeaconsAir
-post-beacon-refused air p here frames beacons n27 n21 n eh e27 e21 en h =
-    (rw (← eh, ← e27, ← e21, ← en, ne-eqb n 0 h), rw (← eh, ← e27, ← e21, ← en, ne-eqb n 0 h))
+pub beacon-over-7 : (s air : List ℕ) (lane : ℕ) → 8 ≤ lane → after (beaconing.the-variants.Refused 4) s air ≡ beaconsIn (heldIn s) air lane
+beacon-over-7 s air lane l = over-7 (heldIn s) air lane l
 
-pub post-beacon-runs : (air exit : List ℕ) (p : Post) (here : Bool) (frames beacons n27 n21 n after : ℕ) (d : Beaconed)
-    → here ≡ hasLane (p .posts) (p .lane) → n27 ≡ cond (leb 1024 beacons) 27 0 → n21 ≡ cond (not here) 21 n27 → n ≡ cond (badAir air) 13 n21
-    → n ≡ 0 → d ≡ beaconStep p → after ≡ framesAfter air frames (d .frame) → exit ≡ airWith air frames (d .frame)
-    → (_≡_ {A = PostBeaconed} (record { answer = d .answer; frames = after; beacons = beacons + 1 }) (postBeacons air p frames beacons))
-    × (exit ≡ postBeaconsAir air p frames beacons)
-unfolding postBeacons postBeaconsAir
-post-beacon-runs air exit p here frames beacons n27 n21 n after d eh e27 e21 en z ed ef ex =
-    (rw (← eh, ← e27, ← e21, ← en, z, ← ed, ← ef), rw (← eh, ← e27, ← e21, ← en, z, ← ed, ← ex))
+pub beacon-short : (s air : List ℕ) (lane : ℕ) → lane < 8 → (length s ≡ 4476 → ⊥) → after (beaconing.the-variants.Refused 12) s air ≡ beaconsIn (heldIn s) air lane
+unfolding beaconsIn
+beacon-short s air lane l h = rw (held-other s h, le-ltb 7 lane (omega arith))
 
-pub beacon-over-7 : (air : List ℕ) (y : Yard) (lane : ℕ) → 8 ≤ lane
-    → (_≡_ {A = YardBeaconed} (record { answer = beaconing.the-variants.Refused 4; yard = y }) (yardBeacons air y lane)) × (air ≡ yardBeaconsAir air y lane)
-unfolding yardBeacons yardBeaconsAir
-beacon-over-7 air y lane h = (rw (le-ltb lane 8 h), rw (le-ltb lane 8 h))
+-- over a whole yard
+stopped : (y : Yard) (ks : List (List ℕ)) (air : List ℕ) (lane n : ℕ) → lane < 8 → n ≡ stopsBeacon air (postAt y lane) (y .beacons) → (n ≡ 0 → ⊥)
+    → _≡_ {A = After beaconing.BeaconAnswer} (record { answer = beaconing.the-variants.Refused n; held = whole y ks; air = air }) (beaconsIn (whole y ks) air lane)
+unfolding beaconsIn
+stopped y ks air lane n l e h = rw (le-ltb 7 lane (omega arith), ← e, ne-eqb n 0 h)
 
-pub beacon-runs : (air exit : List ℕ) (y : Yard) (lane : ℕ) (s : PostBeaconed) → lane < 8 → s ≡ postBeacons air (postAt y lane) (y .frames) (y .beacons)
-    → exit ≡ postBeaconsAir air (postAt y lane) (y .frames) (y .beacons)
-    → (_≡_ {A = YardBeaconed} (record { answer = s .answer; yard = withBeacons y (s .frames) (s .beacons) }) (yardBeacons air y lane))
-    × (exit ≡ yardBeaconsAir air y lane)
-unfolding yardBeacons yardBeaconsAir
-beacon-runs air exit y lane s h es ex = (rw (lt-ltb lane 8 h, ← es), rw (lt-ltb lane 8 h) ex)
+runs : (y : Yard) (ks : List (List ℕ)) (air exit : List ℕ) (lane n frames : ℕ) (d : Beaconed) → lane < 8
+    → n ≡ stopsBeacon air (postAt y lane) (y .beacons) → n ≡ 0 → d ≡ beaconStep (postAt y lane)
+    → frames ≡ framesAfter air (y .frames) (d .frame) → exit ≡ framesWith air (y .frames) (d .frame)
+    → _≡_ {A = After beaconing.BeaconAnswer} (record { answer = d .answer; held = whole (withBeacons y frames (y .beacons + 1)) ks; air = exit })
+    (beaconsIn (whole y ks) air lane)
+unfolding beaconsIn
+runs y ks air exit lane n frames d l e z ed ef ex = rw (le-ltb 7 lane (omega arith), ← e, z, ef, ex, ed)
+
+-- on a state, whose row is lent
+pub beacon-stopped : (s air : List ℕ) (lane sent n : ℕ) → lane < 8 → length s ≡ 4476 → sent ≡ getD s 3 0
+    → n ≡ stopsBeacon air (postIn (lentRow s lane)) sent → (n ≡ 0 → ⊥) → after (beaconing.the-variants.Refused n) s air ≡ beaconsIn (heldIn s) air lane
+beacon-stopped s air lane sent n small long eb e h =
+    let j : n ≡ stopsBeacon air (postIn (rowOf s lane)) (getD s 3 0) = rw (lent-is s lane, eb) at e in
+    rw (held-whole s long) (stopped (yardIn s) (knownsIn s) air lane n small (rw (at-yard s lane small, beacons-in s) j) h)
+
+-- the count of beacons is another cell than that of frames
+frames-stay : (s : List ℕ) (v : ℕ) → getD (set s 3 v) 2 0 ≡ getD s 2 0
+unfolding putIn
+frames-stay s v = cell-apart s 3 1 0 v 2 refl
+
+pub beacon-runs : (s s′ t air exit : List ℕ) (lane sent n : ℕ) (d : Beaconed) → lane < 8 → length s ≡ 4476 → sent ≡ getD s 3 0
+    → n ≡ stopsBeacon air (postIn (lentRow s lane)) sent → n ≡ 0 → d ≡ beaconStep (postIn (lentRow s lane))
+    → s′ ≡ set s 3 (sent + 1) → Sends s′ t air exit (d .frame)
+    → after (d .answer) t exit ≡ beaconsIn (heldIn s) air lane
+beacon-runs s s′ t air exit lane sent n d small long eb en z ed et es =
+    let at = at-yard s lane small in
+    let b : sent ≡ yardIn s .beacons = eb ∙ sym (beacons-in s) in
+    let fr : getD s′ 2 0 ≡ yardIn s .frames = rw et (frames-stay s (sent + 1)) ∙ sym (frames-in s) in
+    let frames : ℕ = framesAfter air (yardIn s .frames) (d .frame) in
+    let long′ : length s′ ≡ 4476 = rw et (length-set s 3 (sent + 1) ∙ long) in
+    let h : heldIn t ≡ whole (withBeacons (yardIn s) (framesAfter air (yardIn s .frames) (d .frame)) (yardIn s .beacons + 1)) (knownsIn s)
+    = rw (es .0, fr) (frames-held s′ frames long′ ∙ rw (et, beacons-yard s (sent + 1) long, beacons-knowns s (sent + 1) long, b))
+    in
+    rw (h, held-whole s long) (runs (yardIn s) (knownsIn s) air exit lane n frames d small (rw (at, beacons-in s, ← eb, ← lent-is s lane) en) z (rw (at, ← lent-is s lane) ed) refl (rw (← fr) (es .1)))

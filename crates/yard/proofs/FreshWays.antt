@@ -1,58 +1,138 @@
--- The ways through `fresh`. Assumes nothing.
-use mathlib.Core.Path.{_≡_, refl}
+-- The ways through the making of a fresh yard. Assumes nothing.
+use mathlib.Core.Path.{_≡_, refl, sym, ap, _∙_}
 use mathlib.Core.Bool.{Bool, true, false, cond, not}
-use mathlib.Core.List.{[], _∷_}
-use Prim.Native.Nat.{ℕ}
+use mathlib.Core.List.{List, [], _++_, map, append-nil}
+use Prim.Native.Nat.{ℕ, _+_, _-_, _*_, _<_, _≤_}
+use native.Mathlib.Omega.{arith}
+use native.Mathlib.Decide.{ℕ-discrete}
+use borrow.Author.Fill.{fill-more}
 use lib.Count.{ones}
 use lib.Dec.{eqb}
-use lib.ListN.{replicate}
-use borrow.Author.Tests.{ne-eqb}
-use Rattle.post.specs.declared.Post.{Post}
-use Rattle.post.specs.Record.{freshPost}
+use lib.ListN.{length, getD, set, take, drop, replicate, length-take}
+use lib.Seq.{drop-length}
+use borrow.Author.Tests.{eqb-true, not-false}
+use Rattle.frame.specs.Lanes.{lanes}
+use Rattle.frame.proofs.Laws.{passed}
 use Rattle.cells.specs.Sets.{roleAstray}
-use Rattle.judge.specs.Judgement.{recordRefusal}
-use Rattle.laws.proofs.ValidFresh as laws
-use Rattle.yard.specs.Yards.{freshYard, yardRefusal, yardMade}
-use Rattle.yard.specs.declared.Yard.{Yard}
-use Rattle.yard.specs.declared.FreshYard.{FreshYard}
+use Rattle.post.specs.Record.{freshPost}
+use Rattle.row.specs.Rows.{part, postIn, knownIn}
+use Rattle.row.proofs.Laws.{part-get}
+use Rattle.yard.specs.Yards.{noPost, freshYard, yardRefusal}
+use Rattle.yard.specs.States.{whole, rowOf, yardIn, knownsIn, heldIn}
+use Rattle.yard.specs.InState.{Made, nothingKnown, freshIn}
+use Rattle.yard.specs.Making.{FreshFront, FreshBelow, SameFront}
+use Rattle.row.proofs.LentParts.{putPart}
+use Rattle.yard.proofs.YardLaws.{at-lane, eight, held-whole, this-row, other-row, front-part, lentRow, rowBack, back-is, lent-length}
 
--- each record fresh
-pub all-fresh : (present sources dests : ℕ) (p0 p1 p2 p3 p4 p5 p6 p7 : Post)
-    → p0 ≡ freshPost 0 present sources dests → p1 ≡ freshPost 1 present sources dests
-    → p2 ≡ freshPost 2 present sources dests → p3 ≡ freshPost 3 present sources dests
-    → p4 ≡ freshPost 4 present sources dests → p5 ≡ freshPost 5 present sources dests
-    → p6 ≡ freshPost 6 present sources dests → p7 ≡ freshPost 7 present sources dests
-    → _≡_ {A = Yard} (record {
-      present = present;
-      sources = sources;
-      posts = p0 ∷ p1 ∷ p2 ∷ p3 ∷ p4 ∷ p5 ∷ p6 ∷ p7 ∷ [];
-      frames = 0;
-      beacons = 0;
-      first = replicate 128 0;
-    }) (freshYard present sources dests)
-unfolding freshYard
-all-fresh present sources dests p0 p1 p2 p3 p4 p5 p6 p7 e0 e1 e2 e3 e4 e5 e6 e7 = rw (e0, e1, e2, e3, e4, e5, e6, e7)
+-- ---- cells cleared, one after another
 
--- 3, then 12: a fresh record is turned down for its roles alone
-fresh-judged : (present sources dests : ℕ) (p : Post) (n12 m n : ℕ) → p ≡ freshPost 0 present sources dests → n12 ≡ recordRefusal p
-    → m ≡ cond (not (eqb n12 0)) 12 0 → n ≡ cond (eqb (ones present) 0) 3 m
-    → n ≡ yardRefusal present sources dests
-unfolding yardRefusal
-fresh-judged present sources dests p n12 m n ep e12 em en = go (roleAstray present sources dests) refl
+pub cleared-more : (s₀ s : List ℕ) (n : ℕ) → n < length s₀ → s ≡ replicate n 0 ++ drop n s₀ → set s n 0 ≡ replicate (n + 1) 0 ++ drop (n + 1) s₀
+cleared-more s₀ s n h e = rw e (fill-more n 0 s₀ h)
+
+pub cleared : (s₀ s : List ℕ) (n : ℕ) → n ≡ length s₀ → s ≡ replicate n 0 ++ drop n s₀ → s ≡ replicate (length s₀) 0
+cleared s₀ s n h e = rw (h, drop-length, append-nil) at e
+
+-- ---- the cells before the rows
+
+pub front-fresh : (s row t u m : List ℕ) (present sources : ℕ) → length s ≡ 4476 → row ≡ replicate (length (take (132 - 0) (drop 0 s))) 0
+    → t ≡ take 0 s ++ (row ++ drop (132 - 0) (drop 0 s)) → u ≡ set t 0 present → m ≡ set u 1 sources → FreshFront m present sources
+unfolding part
+front-fresh s row t u m present sources long er et eu em =
+    let l : length (take 132 s) ≡ 132 = simp length-take (omega arith) in
+    let w : row ≡ replicate 132 0 = rw l at er in
+    let e : m ≡ set (set (replicate 132 0 ++ drop 132 s) 0 present) 1 sources = rw (em, eu, et, w) in
+    record {
+      posts = rw e;
+      roles = rw e;
+      frames = rw e;
+      beacons = rw e;
+      first = rw e;
+    }
+
+-- ---- a row
+
+pub row-fresh : (l a b d e m : List ℕ) (lane present sources dests : ℕ) → length l ≡ 543 → a ≡ replicate (length l) 0 → b ≡ set a 0 lane → d ≡ set b 1 sources
+    → e ≡ set d 2 dests → m ≡ set e 542 present
+    → (postIn m ≡ freshPost lane present sources dests) × (knownIn m ≡ replicate 8 0)
+unfolding postIn knownIn part
+row-fresh l a b d e m lane present sources dests long ea eb ed ee em =
+    let w : m ≡ set (set (set (set (replicate 543 0) 0 lane) 1 sources) 2 dests) 542 present = rw (em, ee, ed, eb, ea, long) in
+    (rw w, rw w)
+
+-- none yet, and one more
+pub rows-none : (s : List ℕ) (present sources dests : ℕ) → FreshBelow s present sources dests 0 × SameFront s s
+rows-none s present sources dests = (record { post = λ i l. absurd (omega arith); known = λ i l. absurd (omega arith) }, λ b m k. refl)
+
+pub rows-more : (s₀ s row t : List ℕ) (present sources dests lane : ℕ) → length s ≡ 4476 → lane < 8 → length row ≡ length (lentRow s lane)
+    → FreshBelow s present sources dests lane × SameFront s₀ s
+    → postIn row ≡ freshPost lane present sources dests → knownIn row ≡ replicate 8 0 → t ≡ rowBack s lane row
+    → FreshBelow t present sources dests (lane + 1) × SameFront s₀ t
+rows-more s₀ s row t present sources dests lane long small lr h ep ek et = (record { post = λ i l. post i l (ℕ-discrete i lane); known = λ i l. known i l (ℕ-discrete i lane) }, front)
   where
-    go : (b : Bool) → roleAstray present sources dests ≡ b → n ≡ yardRefusal present sources dests
-    go true q = rw q (let z : n12 ≡ 12 = rw (ep, laws.fresh-judged 0 present sources dests, q) at e12 in let y : m ≡ 12 = rw z at em in rw y at en)
-    go false q = rw q (let z : n12 ≡ 0 = rw (ep, laws.fresh-judged 0 present sources dests, q) at e12 in let y : m ≡ 0 = rw z at em in rw y at en)
+    size : length row ≡ 543
+    size = lr ∙ lent-length s lane long small
 
-pub fresh-made : (present sources dests : ℕ) (p : Post) (n12 m n : ℕ) (y : Yard) → p ≡ freshPost 0 present sources dests → n12 ≡ recordRefusal p
-    → m ≡ cond (not (eqb n12 0)) 12 0 → n ≡ cond (eqb (ones present) 0) 3 m → n ≡ 0 → y ≡ freshYard present sources dests
-    → _≡_ {A = FreshYard} (record { refusal = 0; yard = y }) (yardMade present sources dests)
-unfolding yardMade
-fresh-made present sources dests p n12 m n y ep e12 em en z ey = rw (← fresh-judged present sources dests p n12 m n ep e12 em en, z, ey)
+    back : t ≡ putPart s (132 + 543 * lane) 543 row
+    back = et ∙ back-is s lane row
 
-pub fresh-refused : (present sources dests : ℕ) (p : Post) (n12 m n : ℕ) (y : Yard) → p ≡ freshPost 0 present sources dests → n12 ≡ recordRefusal p
-    → m ≡ cond (not (eqb n12 0)) 12 0 → n ≡ cond (eqb (ones present) 0) 3 m → (n ≡ 0 → ⊥) → y ≡ freshYard 0 0 0
-    → _≡_ {A = FreshYard} (record { refusal = n; yard = y }) (yardMade present sources dests)
-unfolding yardMade
-fresh-refused present sources dests p n12 m n y ep e12 em en h ey =
-    rw (← fresh-judged present sources dests p n12 m n ep e12 em en, ne-eqb n 0 h, ey)
+    post : (i : ℕ) → i < lane + 1 → Dec (i ≡ lane) → postIn (rowOf t i) ≡ freshPost i present sources dests
+    post i l (yes e) = rw (back, e, this-row s lane row long small size) ep
+    post i l (no n) = rw (back, other-row s lane row long small size i n) (h .0 .post i (omega (arith, n)))
+
+    known : (i : ℕ) → i < lane + 1 → Dec (i ≡ lane) → knownIn (rowOf t i) ≡ replicate 8 0
+    known i l (yes e) = rw (back, e, this-row s lane row long small size) ek
+    known i l (no n) = rw (back, other-row s lane row long small size i n) (h .0 .known i (omega (arith, n)))
+
+    front : SameFront s₀ t
+    front b m k = rw back (front-part s lane row long small size b m k) ∙ h .1 b m k
+
+-- ---- the whole
+
+same-cell : (s t : List ℕ) (k : ℕ) → SameFront s t → k + 1 ≤ 132 → getD t (k + 0) 0 ≡ getD s (k + 0) 0
+same-cell s t k h l = sym (part-get t k 1 0 (omega arith)) ∙ ap (λ (x : List ℕ). getD x 0 0) (h k 1 l) ∙ part-get s k 1 0 (omega arith)
+
+held-fresh : (s t : List ℕ) (present sources dests : ℕ) → length t ≡ 4476 → FreshFront s present sources → FreshBelow t present sources dests 8 → SameFront s t
+    → heldIn t ≡ whole (freshYard present sources dests) nothingKnown
+unfolding yardIn knownsIn freshYard
+held-fresh s t present sources dests long f b e =
+    let ps : map (λ (i : ℕ). postIn (rowOf t i)) lanes ≡ map (λ (i : ℕ). freshPost i present sources dests) lanes
+    = eight noPost (λ (i : ℕ). freshPost i present sources dests) (map (λ (i : ℕ). postIn (rowOf t i)) lanes) refl
+    (λ i l. at-lane noPost (λ (j : ℕ). postIn (rowOf t j)) i l ∙ b .post i l)
+    in
+    let ks : map (λ (i : ℕ). knownIn (rowOf t i)) lanes ≡ map (λ (i : ℕ). replicate 8 0) lanes
+    = eight [] (λ (i : ℕ). replicate 8 0) (map (λ (i : ℕ). knownIn (rowOf t i)) lanes) refl
+    (λ i l. at-lane [] (λ (j : ℕ). knownIn (rowOf t j)) i l ∙ b .known i l)
+    in
+    held-whole t long
+    ∙ rw (ps, ks, same-cell s t 0 e (omega arith), same-cell s t 1 e (omega arith), same-cell s t 2 e (omega arith), same-cell s t 3 e (omega arith), e 4 128 (omega arith), f .posts, f .roles, f .frames, f .beacons, f .first)
+
+-- 3, then 12, for the roles or the length
+pub fresh-judged : (s : List ℕ) (present sources dests n12 m n : ℕ) (astray : Bool) → n12 ≡ cond (not (eqb (length s) 4476)) 12 0 → astray ≡ roleAstray present sources dests
+    → m ≡ cond astray 12 n12 → n ≡ cond (eqb (ones present) 0) 3 m → n ≡ 0 → (length s ≡ 4476) × (yardRefusal present sources dests ≡ 0)
+unfolding yardRefusal
+fresh-judged s present sources dests n12 m n astray e12 ea em en z =
+    let a = passed (eqb (ones present) 0) 3 m (omega arith) (sym en ∙ z) in
+    let b = passed astray 12 n12 (omega arith) (sym em ∙ a .1) in
+    let d = passed (not (eqb (length s) 4476)) 12 0 (omega arith) (sym e12 ∙ b .1) in
+    (eqb-true (length s) 4476 (not-false _ (d .0)), rw (a .0, ← ea, b .0))
+
+pub fresh-refused : (s : List ℕ) (present sources dests n12 m n : ℕ) (astray : Bool) → n12 ≡ cond (not (eqb (length s) 4476)) 12 0 → astray ≡ roleAstray present sources dests
+    → m ≡ cond astray 12 n12 → n ≡ cond (eqb (ones present) 0) 3 m → (n ≡ 0 → ⊥)
+    → _≡_ {A = Made} (record { number = n; held = heldIn s }) (freshIn (heldIn s) present sources dests)
+unfolding heldIn freshIn yardRefusal
+fresh-refused s present sources dests n12 m n astray e12 ea em en h = go (eqb (length s) 4476) refl astray refl (eqb (ones present) 0) refl
+  where
+    go : (a : Bool) → eqb (length s) 4476 ≡ a → (b : Bool) → astray ≡ b → (d : Bool) → eqb (ones present) 0 ≡ d
+        → _≡_ {A = Made} (record { number = n; held = heldIn s }) (freshIn (heldIn s) present sources dests)
+    go false p b q true r = let z : n ≡ 3 = rw r at en in rw (p, r, z)
+    go false p true q false r = let z : n ≡ 12 = rw (r, em, q) at en in rw (p, r, z)
+    go false p false q false r = let z : n ≡ 12 = rw (r, em, q, e12, p) at en in rw (p, r, z)
+    go true p b q true r = let z : n ≡ 3 = rw r at en in rw (p, r, z)
+    go true p true q false r = let z : n ≡ 12 = rw (r, em, q) at en in rw (p, r, ← ea, q, z)
+    go true p false q false r = absurd (h (rw (r, em, q, e12, p) at en))
+
+pub fresh-made : (s u t : List ℕ) (present sources dests : ℕ) → length s ≡ 4476 → yardRefusal present sources dests ≡ 0 → length t ≡ 4476
+    → FreshFront u present sources → FreshBelow t present sources dests 8 → SameFront u t
+    → _≡_ {A = Made} (record { number = 0; held = heldIn t }) (freshIn (heldIn s) present sources dests)
+unfolding freshIn
+fresh-made s u t present sources dests long z lt f b e = rw (held-whole s long, z, held-fresh u t present sources dests lt f b e)

@@ -1,88 +1,78 @@
--- The ways through `post_hears` and `hear`. Assumes nothing.
-use mathlib.Core.Path.{_≡_, refl, sym, ap, _∙_}
-use mathlib.Core.Bool.{Bool, true, false, cond}
-use mathlib.Core.List.{List}
-use Prim.Native.Nat.{ℕ, _<_, _≤_}
+-- The ways through a hearing on a state. Assumes nothing.
+use mathlib.Core.Path.{_≡_, refl, sym, _∙_}
+use mathlib.Core.List.{List, []}
+use Prim.Native.Nat.{ℕ, _+_, _*_, _<_, _≤_}
 use native.Mathlib.Omega.{arith}
-use lib.Dec.{eqb}
+use lib.ListN.{length, getD, set}
 use borrow.Author.Tests.{ne-eqb, lt-ltb, le-ltb}
-use Rattle.frame.specs.declared.FrameRead.{FrameRead}
-use Rattle.frame.specs.ReadWrite.{readOf}
-use Rattle.air.specs.Air.{badAir, notOnAir, stretchAt, airWith}
-use Rattle.air.specs.Stretch.{stretchRefusal, stretchOf}
-use Rattle.post.specs.declared.Post.{Post}
-use Rattle.steps.specs.Refusals.{notInYard}
-use Rattle.steps.specs.Steps.{hearStep}
+use Rattle.frame.specs.declared.Frame.{Frame}
+use Rattle.air.specs.Air.{framesWith}
+use Rattle.row.specs.Rows.{postIn, knownIn}
+use Rattle.steps.specs.Knowing.{Stepped, stepped, hearsBy}
 use Rattle.steps.specs.declared.HearAnswer as hearings
-use Rattle.steps.specs.declared.Heard.{Heard}
-use Rattle.yard.specs.Yards.{postAt}
-use Rattle.yard.specs.Singles.{framesAfter, absentRefusal, stopsHearing, frameAt, postHears, postHearsAir, withPost, yardHears, yardHearsAir}
-use Rattle.yard.specs.declared.Yard.{Yard}
-use Rattle.yard.specs.declared.PostHeard.{PostHeard}
-use Rattle.yard.specs.declared.YardHeard.{YardHeard}
+use Rattle.yard.specs.Yards.{Yard, postAt}
+use Rattle.yard.specs.Singles.{framesAfter, stopsHearing, frameAt, withPost}
+use Rattle.yard.specs.States.{Held, whole, other, rowOf, yardIn, knownsIn, heldIn}
+use Rattle.yard.specs.InState.{After, after, hearsIn}
+use Rattle.row.proofs.LentParts.{putPart}
+use Rattle.yard.proofs.YardLaws.{held-whole, held-other, at-yard, at-knowns, frames-in, front-cell, row-long, row-yard, row-knowns, lentRow, rowBack, lent-is, back-is, lent-length, frames-held}
+use Rattle.yard.proofs.PartWays.{Sends}
 
--- a frame that is on the air is read from its stretch
-on-air-read : (air : List ℕ) (frames k : ℕ) (got : FrameRead) → got ≡ readOf (stretchOf air frames k) → badAir air ≡ false → notOnAir frames k ≡ false
-    → got ≡ readOf (stretchAt air k)
-unfolding stretchOf stretchRefusal
-on-air-read air frames k got e a o = rw (a, o) at e
+-- refused: 4, 12, and what stops it
+over-7 : (h : Held) (air : List ℕ) (lane k : ℕ) → 8 ≤ lane
+    → _≡_ {A = After hearings.HearAnswer} (record { answer = hearings.the-variants.Refused 4; held = h; air = air }) (hearsIn h air lane k)
+unfolding hearsIn
+over-7 (whole y knowns) air lane k l = rw (lt-ltb 7 lane l)
+over-7 (other cells) air lane k l = rw (lt-ltb 7 lane l)
 
--- 13, 21, 25, then what reading refuses
-pub hear-judged : (air : List ℕ) (p : Post) (frames k m n : ℕ) (got : FrameRead) → got ≡ readOf (stretchOf air frames k)
-    → m ≡ absentRefusal air (p .lane) (p .posts) frames k → n ≡ cond (eqb m 0) (got .refusal) m
-    → (n ≡ stopsHearing air p frames k) × (n ≡ 0 → got .frame ≡ frameAt air k)
-unfolding readOf
-hear-judged air p frames k m n got eg em en = go (badAir air) refl (notOnAir frames k) refl (notInYard (p .posts) (p .lane)) refl
-  where
-    go : (a : Bool) → badAir air ≡ a → (o : Bool) → notOnAir frames k ≡ o → (s : Bool) → notInYard (p .posts) (p .lane) ≡ s
-        → (n ≡ stopsHearing air p frames k) × (n ≡ 0 → got .frame ≡ frameAt air k)
-    go true qa o qo s qs =
-        let z : m ≡ 13 = rw qa at em in
-        let r : n ≡ 13 = rw z at en in
-        (rw qa r, λ c. absurd (omega arith))
-    go false qa true qo true qs =
-        let z : m ≡ 21 = rw (qa, qo, qs) at em in
-        let r : n ≡ 21 = rw z at en in
-        (rw (qa, qo, qs) r, λ c. absurd (omega arith))
-    go false qa true qo false qs =
-        let z : m ≡ 25 = rw (qa, qo, qs) at em in
-        let r : n ≡ 25 = rw z at en in
-        (rw (qa, qo, qs) r, λ c. absurd (omega arith))
-    go false qa false qo s qs =
-        let z : m ≡ 0 = rw (qa, qo) at em in
-        let g = on-air-read air frames k got eg qa qo in
-        let r : n ≡ got .refusal = rw z at en in
-        let t = r ∙ ap (λ (x : FrameRead). x .refusal) g in
-        (rw (qa, qo) t, λ c. ap (λ (x : FrameRead). x .frame) g ∙ rw (sym t ∙ c))
+pub hear-over-7 : (s air : List ℕ) (lane k : ℕ) → 8 ≤ lane → after (hearings.the-variants.Refused 4) s air ≡ hearsIn (heldIn s) air lane k
+hear-over-7 s air lane k l = over-7 (heldIn s) air lane k l
 
-pub post-hear-refused : (air : List ℕ) (p : Post) (frames k m n : ℕ) (got : FrameRead) → got ≡ readOf (stretchOf air frames k)
-    → m ≡ absentRefusal air (p .lane) (p .posts) frames k → n ≡ cond (eqb m 0) (got .refusal) m → (n ≡ 0 → ⊥)
-    → (_≡_ {A = PostHeard} (record { answer = hearings.the-variants.Refused n; post = p; frames = frames }) (postHears air p frames k))
-    × (air ≡ postHearsAir air p frames k)
-unfolding postHears postHearsAir
-post-hear-refused air p frames k m n got eg em en h =
-    let j = hear-judged air p frames k m n got eg em en .0 in
-    (rw (← j, ne-eqb n 0 h), rw (← j, ne-eqb n 0 h))
+pub hear-short : (s air : List ℕ) (lane k : ℕ) → lane < 8 → (length s ≡ 4476 → ⊥)
+    → after (hearings.the-variants.Refused 12) s air ≡ hearsIn (heldIn s) air lane k
+unfolding hearsIn
+hear-short s air lane k l h = rw (held-other s h, le-ltb 7 lane (omega arith))
 
-pub post-hear-runs : (air exit : List ℕ) (p : Post) (frames k m n after : ℕ) (got : FrameRead) (d : Heard) → got ≡ readOf (stretchOf air frames k)
-    → m ≡ absentRefusal air (p .lane) (p .posts) frames k → n ≡ cond (eqb m 0) (got .refusal) m → n ≡ 0 → d ≡ hearStep p (got .frame)
-    → after ≡ framesAfter air frames (d .frame) → exit ≡ airWith air frames (d .frame)
-    → (_≡_ {A = PostHeard} (record { answer = d .answer; post = d .post; frames = after }) (postHears air p frames k))
-    × (exit ≡ postHearsAir air p frames k)
-unfolding postHears postHearsAir
-post-hear-runs air exit p frames k m n after got d eg em en z ed ef ex =
-    let j = hear-judged air p frames k m n got eg em en in
-    let e : d ≡ hearStep p (frameAt air k) = ed ∙ ap (hearStep p) (j .1 z) in
-    (rw (← j .0, z, ← e, ← ef), rw (← j .0, z, ← e, ← ex))
+-- over a whole yard
+stopped : (y : Yard) (ks : List (List ℕ)) (air : List ℕ) (lane k n : ℕ) → lane < 8 → n ≡ stopsHearing air (postAt y lane) (y .frames) k → (n ≡ 0 → ⊥)
+    → _≡_ {A = After hearings.HearAnswer} (record { answer = hearings.the-variants.Refused n; held = whole y ks; air = air }) (hearsIn (whole y ks) air lane k)
+unfolding hearsIn
+stopped y ks air lane k n l e h = rw (le-ltb 7 lane (omega arith), ← e, ne-eqb n 0 h)
 
-pub hear-over-7 : (air : List ℕ) (y : Yard) (lane k : ℕ) → 8 ≤ lane
-    → (_≡_ {A = YardHeard} (record { answer = hearings.the-variants.Refused 4; yard = y }) (yardHears air y lane k)) × (air ≡ yardHearsAir air y lane k)
-unfolding yardHears yardHearsAir
-hear-over-7 air y lane k h = (rw (le-ltb lane 8 h), rw (le-ltb lane 8 h))
+runs : (y : Yard) (ks : List (List ℕ)) (air exit : List ℕ) (lane k n frames : ℕ) (d : Stepped hearings.HearAnswer) → lane < 8
+    → n ≡ stopsHearing air (postAt y lane) (y .frames) k → n ≡ 0 → d ≡ hearsBy (getD ks lane []) (postAt y lane) (frameAt air k)
+    → frames ≡ framesAfter air (y .frames) (d .frame) → exit ≡ framesWith air (y .frames) (d .frame)
+    → _≡_ {A = After hearings.HearAnswer} (record { answer = d .answer; held = whole (withPost y lane (d .post) frames) (set ks lane (d .known)); air = exit })
+    (hearsIn (whole y ks) air lane k)
+unfolding hearsIn
+runs y ks air exit lane k n frames d l e z ed ef ex = rw (le-ltb 7 lane (omega arith), ← e, z, ef, ex, ed)
 
-pub hear-runs : (air exit : List ℕ) (y : Yard) (lane k : ℕ) (s : PostHeard) → lane < 8 → s ≡ postHears air (postAt y lane) (y .frames) k
-    → exit ≡ postHearsAir air (postAt y lane) (y .frames) k
-    → (_≡_ {A = YardHeard} (record { answer = s .answer; yard = withPost y lane (s .post) (s .frames) }) (yardHears air y lane k))
-    × (exit ≡ yardHearsAir air y lane k)
-unfolding yardHears yardHearsAir
-hear-runs air exit y lane k s h es ex = (rw (lt-ltb lane 8 h, ← es), rw (lt-ltb lane 8 h) ex)
+-- on a state, whose row is lent
+pub hear-stopped : (s air : List ℕ) (lane k frames n : ℕ) → lane < 8 → length s ≡ 4476 → frames ≡ getD s 2 0
+    → n ≡ stopsHearing air (postIn (lentRow s lane)) frames k → (n ≡ 0 → ⊥) → after (hearings.the-variants.Refused n) s air ≡ hearsIn (heldIn s) air lane k
+hear-stopped s air lane k frames n small long ef e h =
+    let j : n ≡ stopsHearing air (postIn (rowOf s lane)) (getD s 2 0) k = rw (lent-is s lane, ef) at e in
+    rw (held-whole s long) (stopped (yardIn s) (knownsIn s) air lane k n small (rw (at-yard s lane small, frames-in s) j) h)
+
+hear-row : (s row t air exit : List ℕ) (lane k n : ℕ) (f g : Frame) (a : hearings.HearAnswer) → lane < 8 → length s ≡ 4476 → length row ≡ 543
+    → n ≡ stopsHearing air (postIn (rowOf s lane)) (getD s 2 0) k → n ≡ 0 → f ≡ frameAt air k
+    → stepped a row g ≡ hearsBy (knownIn (rowOf s lane)) (postIn (rowOf s lane)) f → Sends (putPart s (132 + 543 * lane) 543 row) t air exit g
+    → after a t exit ≡ hearsIn (heldIn s) air lane k
+hear-row s row t air exit lane k n f g a small long size en z ef ed es =
+    let s′ : List ℕ = putPart s (132 + 543 * lane) 543 row in
+    let at = at-yard s lane small in
+    let ka = at-knowns s lane small in
+    let fr : getD s′ 2 0 ≡ yardIn s .frames = front-cell s lane row long small size 2 (omega arith) ∙ sym (frames-in s) in
+    let frames : ℕ = framesAfter air (yardIn s .frames) g in
+    let h : heldIn t ≡ whole (withPost (yardIn s) lane (postIn row) (framesAfter air (yardIn s .frames) g)) (set (knownsIn s) lane (knownIn row))
+    = rw (es .0, fr) (frames-held s′ frames (row-long s lane row long small size) ∙ rw (row-yard s lane row long small size, row-knowns s lane row long small size))
+    in
+    rw (h, held-whole s long) (runs (yardIn s) (knownsIn s) air exit lane k n frames (stepped a row g) small (rw (at, frames-in s) en) z (rw (ka, at, ← ef) ed) refl (rw (← fr) (es .1)))
+
+pub hear-runs : (s row t air exit : List ℕ) (lane k frames n : ℕ) (f g : Frame) (a : hearings.HearAnswer) → lane < 8 → length s ≡ 4476
+    → length row ≡ length (lentRow s lane) → frames ≡ getD s 2 0 → n ≡ stopsHearing air (postIn (lentRow s lane)) frames k → n ≡ 0
+    → (n ≡ 0 → f ≡ frameAt air k) → stepped a row g ≡ hearsBy (knownIn (lentRow s lane)) (postIn (lentRow s lane)) f
+    → Sends (rowBack s lane row) t air exit g
+    → after a t exit ≡ hearsIn (heldIn s) air lane k
+hear-runs s row t air exit lane k frames n f g a small long lr ef en z eg ed es =
+    hear-row s row t air exit lane k n f g a small long (lr ∙ lent-length s lane long small) (rw (lent-is s lane, ef) at en) z (eg z) (rw (lent-is s lane) at ed) (rw (back-is s lane row) at es)

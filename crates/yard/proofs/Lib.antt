@@ -1,6 +1,10 @@
+pub mod YardLaws
 pub mod PartWays
-pub mod FreshWays
-pub mod OrderWays
 pub mod HearWays
+pub mod AnswerLaws
 pub mod BeaconWays
-pub mod Answers
+pub mod OrderWays
+pub mod FreshWays
+pub mod Exact
+pub mod Sound
+pub mod Theorem

@@ -1,71 +1,136 @@
--- The ways through `post_orders` and `order`. Assumes nothing.
-use mathlib.Core.Path.{_≡_, sym, _∙_}
-use mathlib.Core.Bool.{cond}
-use mathlib.Core.List.{List}
-use Prim.Native.Nat.{ℕ, _<_, _≤_}
+-- The ways through an order on a state. Assumes nothing.
+use mathlib.Core.Path.{_≡_, refl, sym, _∙_}
+use mathlib.Core.Bool.{Bool, true, false, cond}
+use mathlib.Core.List.{List, []}
+use Prim.Native.Nat.{ℕ, _+_, _*_, _<_, _≤_}
 use native.Mathlib.Omega.{arith}
-use lib.Dec.{ltb}
-use lib.ListN.{set}
-use borrow.Author.Tests.{ne-eqb, ltb-false, lt-ltb, le-ltb}
-use Rattle.frame.proofs.Laws.{passed}
-use Rattle.air.specs.Air.{badAir, airWith}
+use lib.Dec.{ltb, eqb}
+use lib.ListN.{length, getD, set, length-set}
+use borrow.Author.Tests.{eq-eqb, ne-eqb, lt-ltb, le-ltb}
+use Rattle.frame.specs.declared.Frame.{Frame}
+use Rattle.air.specs.Air.{placeRefusal, framesWith}
+use Rattle.air.proofs.Laws.{has-place}
 use Rattle.cells.specs.Tables.{orderPlace}
 use Rattle.post.specs.declared.Post.{Post}
-use Rattle.steps.specs.Steps.{orderStep}
+use Rattle.post.specs.Taking.{kept, ticked, ownTaken}
+use Rattle.row.specs.Rows.{putIn, postIn, knownIn}
+use Rattle.deliver.specs.Known.{deliveredFrom}
+use Rattle.steps.specs.Refusals.{orderRefusal}
+use Rattle.steps.specs.Steps.{orderSent, orderStep}
+use Rattle.steps.specs.Knowing.{Stepped, stepped, ordersBy}
 use Rattle.steps.specs.declared.OrderAnswer as orders
-use Rattle.steps.specs.declared.Ordered.{Ordered}
-use Rattle.yard.specs.Yards.{postAt}
-use Rattle.yard.specs.Singles.{framesAfter, firstAfter, postOrders, postOrdersAir, yardOrders, yardOrdersAir}
-use Rattle.yard.specs.declared.Yard.{Yard}
-use Rattle.yard.specs.declared.PostOrdered.{PostOrdered}
-use Rattle.yard.specs.declared.YardOrdered.{YardOrdered}
+use Rattle.yard.specs.Yards.{Yard, postAt}
+use Rattle.yard.specs.Singles.{framesAfter, withPost}
+use Rattle.yard.specs.States.{Held, whole, other, rowOf, yardIn, knownsIn, heldIn}
+use Rattle.yard.specs.InState.{After, after, withOrder, ordersIn}
+use Rattle.row.proofs.LentParts.{putPart}
+use Rattle.yard.proofs.YardLaws.{held-whole, held-other, at-yard, at-knowns, frames-in, front-cell, row-long, row-yard, row-knowns, lentRow, rowBack, lent-is, back-is, lent-length, frames-yard, frames-knowns, withFirst, first-held}
+use Rattle.yard.proofs.PartWays.{Sends, Noted, no-kind}
 
--- a word that is not refused by 5 fits
-pub word-fits : (word m n : ℕ) → n ≡ cond (ltb 65535 word) 5 m → n ≡ 0 → word ≤ 65535
-word-fits word m n e z = ltb-false 65535 word (passed (ltb 65535 word) 5 m (omega arith) (sym e ∙ z) .0)
+-- refused: 4, 5, 12, 13
+over-7 : (h : Held) (air : List ℕ) (lane word : ℕ) → 8 ≤ lane
+    → _≡_ {A = After orders.OrderAnswer} (record { answer = orders.the-variants.Refused 4; held = h; air = air }) (ordersIn h air lane word)
+unfolding ordersIn
+over-7 (whole y knowns) air lane word l = rw (lt-ltb 7 lane l)
+over-7 (other cells) air lane word l = rw (lt-ltb 7 lane l)
 
-pub post-order-refused : (air : List ℕ) (p : Post) (frames word m n : ℕ) → m ≡ cond (badAir air) 13 0 → n ≡ cond (ltb 65535 word) 5 m → (n ≡ 0 → ⊥)
-    → (_≡_ {A = PostOrdered} (record { answer = orders.the-variants.Refused n; post = p; frames = frames }) (postOrders air p frames word))
-    × (air ≡ postOrdersAir air p frames word)
-unfolding postOrders postOrdersAir
-post-order-refused air p frames word m n em en h = (rw (← em, ← en, ne-eqb n 0 h), rw (← em, ← en, ne-eqb n 0 h))
+pub order-over-7 : (s air : List ℕ) (lane word : ℕ) → 8 ≤ lane → after (orders.the-variants.Refused 4) s air ≡ ordersIn (heldIn s) air lane word
+order-over-7 s air lane word l = over-7 (heldIn s) air lane word l
 
-pub post-order-runs : (air exit : List ℕ) (p : Post) (frames word m n after : ℕ) (d : Ordered) → m ≡ cond (badAir air) 13 0
-    → n ≡ cond (ltb 65535 word) 5 m → n ≡ 0 → d ≡ orderStep p word → after ≡ framesAfter air frames (d .frame) → exit ≡ airWith air frames (d .frame)
-    → (_≡_ {A = PostOrdered} (record { answer = d .answer; post = d .post; frames = after }) (postOrders air p frames word))
-    × (exit ≡ postOrdersAir air p frames word)
-unfolding postOrders postOrdersAir
-post-order-runs air exit p frames word m n after d em en z ed ef ex =
-    (rw (← em, ← en, z, ← ed, ← ef), rw (← em, ← en, z, ← ed, ← ex))
+large : (h : Held) (air : List ℕ) (lane word : ℕ) → lane < 8 → 65535 < word
+    → _≡_ {A = After orders.OrderAnswer} (record { answer = orders.the-variants.Refused 5; held = h; air = air }) (ordersIn h air lane word)
+unfolding ordersIn
+large (whole y knowns) air lane word l w = rw (le-ltb 7 lane (omega arith), lt-ltb 65535 word w)
+large (other cells) air lane word l w = rw (le-ltb 7 lane (omega arith), lt-ltb 65535 word w)
 
--- the order's first frame is the broadcast that sends it
-pub first-noted : (first exit : List ℕ) (lane serial before after place : ℕ) → before < after → place ≡ orderPlace lane serial → exit ≡ set first place before
-    → exit ≡ cond (ltb before after) (set first (orderPlace lane serial) before) first
-first-noted first exit lane serial before after place h ep ex = rw (lt-ltb before after h, ← ep) ex
+pub order-large : (s air : List ℕ) (lane word : ℕ) → lane < 8 → 65535 < word → after (orders.the-variants.Refused 5) s air ≡ ordersIn (heldIn s) air lane word
+order-large s air lane word l w = large (heldIn s) air lane word l w
 
-pub first-kept : (first : List ℕ) (place before after : ℕ) → after ≤ before → first ≡ cond (ltb before after) (set first place before) first
-first-kept first place before after h = rw (le-ltb before after h)
+pub order-short : (s air : List ℕ) (lane word : ℕ) → lane < 8 → word ≤ 65535 → (length s ≡ 4476 → ⊥)
+    → after (orders.the-variants.Refused 12) s air ≡ ordersIn (heldIn s) air lane word
+unfolding ordersIn
+order-short s air lane word l w h = rw (held-other s h, le-ltb 7 lane (omega arith), le-ltb 65535 word w)
 
-pub order-over-7 : (air : List ℕ) (y : Yard) (lane word : ℕ) → 8 ≤ lane
-    → (_≡_ {A = YardOrdered} (record { answer = orders.the-variants.Refused 4; yard = y }) (yardOrders air y lane word))
-    × (air ≡ yardOrdersAir air y lane word)
-unfolding yardOrders yardOrdersAir
-order-over-7 air y lane word h = (rw (le-ltb lane 8 h), rw (le-ltb lane 8 h))
+pub order-no-air : (s air : List ℕ) (lane word : ℕ) → lane < 8 → word ≤ 65535 → length s ≡ 4476 → (length air ≡ 65536 → ⊥)
+    → after (orders.the-variants.Refused 13) s air ≡ ordersIn (heldIn s) air lane word
+unfolding ordersIn
+order-no-air s air lane word l w h a = rw (held-whole s h, le-ltb 7 lane (omega arith), le-ltb 65535 word w, ne-eqb (length air) 65536 a)
 
-pub order-runs : (air exit first : List ℕ) (y : Yard) (lane word : ℕ) (s : PostOrdered) → lane < 8 → s ≡ postOrders air (postAt y lane) (y .frames) word
-    → exit ≡ postOrdersAir air (postAt y lane) (y .frames) word
-    → first ≡ cond (ltb (y .frames) (s .frames)) (set (y .first) (orderPlace lane (s .post .serial .0)) (y .frames)) (y .first)
-    → (_≡_ {A = YardOrdered} (record {
-      answer = s .answer;
-      yard = record {
-        present = y .present;
-        sources = y .sources;
-        posts = set (y .posts) lane (s .post);
-        frames = s .frames;
-        beacons = y .beacons;
-        first = first;
-      };
-    }) (yardOrders air y lane word))
-    × (exit ≡ yardOrdersAir air y lane word)
-unfolding yardOrders yardOrdersAir firstAfter
-order-runs air exit first y lane word s h es ex ef = (rw (lt-ltb lane 8 h, ← es, ← ef), rw (lt-ltb lane 8 h) ex)
+-- over a whole yard
+runs : (y : Yard) (ks : List (List ℕ)) (air exit : List ℕ) (lane word frames : ℕ) (d : Stepped orders.OrderAnswer) → lane < 8 → word ≤ 65535 → length air ≡ 65536
+    → d ≡ ordersBy (getD ks lane []) (postAt y lane) word → frames ≡ framesAfter air (y .frames) (d .frame) → exit ≡ framesWith air (y .frames) (d .frame)
+    → _≡_ {A = After orders.OrderAnswer} (record { answer = d .answer; held = whole (withOrder y lane (d .post) frames) (set ks lane (d .known)); air = exit })
+    (ordersIn (whole y ks) air lane word)
+unfolding ordersIn
+runs y ks air exit lane word frames d l w a ed ef ex = rw (le-ltb 7 lane (omega arith), le-ltb 65535 word w, eq-eqb (length air) 65536 a, ef, ex, ed)
+
+-- ---- the first frame
+
+-- a broadcast has the serial of the post that it leaves, or is none
+same-serial : (known : List ℕ) (p : Post) (word : ℕ) (b : Bool) → eqb (orderRefusal p) 0 ≡ b
+    → cond b (ordersBy known p word .frame .serial .0 ≡ ordersBy known p word .post .serial .0) (ordersBy known p word .frame .kind ≡ 0)
+unfolding ordersBy orderStep orderSent deliveredFrom ownTaken kept ticked
+same-serial known p word true e = rw e
+same-serial known p word false e = rw e
+
+-- none is not counted
+none-counted : (air : List ℕ) (frames : ℕ) (f : Frame) → f .kind ≡ 0 → ltb frames (framesAfter air frames f) ≡ false
+unfolding framesAfter
+none-counted air frames f z =
+    let h : placeRefusal air frames f ≡ 0 → ⊥ = λ e. absurd (omega (arith, no-kind f z, has-place air frames f e .1)) in
+    rw (ne-eqb (placeRefusal air frames f) 0 h) (le-ltb frames frames (omega arith))
+
+-- so its first frame is noted at the place of the order
+abbrev noted : List ℕ → ℕ → ℕ → ℕ → ℕ → List ℕ
+noted first lane serial before after = cond (ltb before after) (set first (orderPlace lane serial) before) first
+
+same-noted : (known first air : List ℕ) (p : Post) (word lane frames : ℕ) (d : Stepped orders.OrderAnswer) → d ≡ ordersBy known p word
+    → noted first lane (d .frame .serial .0) frames (framesAfter air frames (d .frame)) ≡ noted first lane (d .post .serial .0) frames (framesAfter air frames (d .frame))
+same-noted known first air p word lane frames d e = go (eqb (orderRefusal p) 0) refl
+  where
+    go : (b : Bool) → eqb (orderRefusal p) 0 ≡ b
+        → noted first lane (d .frame .serial .0) frames (framesAfter air frames (d .frame)) ≡ noted first lane (d .post .serial .0) frames (framesAfter air frames (d .frame))
+    go true q = let s : d .frame .serial .0 ≡ d .post .serial .0 = rw e (same-serial known p word true q) in rw s
+    go false q = let z : d .frame .kind ≡ 0 = rw e (same-serial known p word false q) in rw (none-counted air frames (d .frame) z)
+
+-- on a state
+noted-held : (s t : List ℕ) (lane serial before : ℕ) → length s ≡ 4476 → Noted s t lane serial before
+    → heldIn t ≡ whole (withFirst (yardIn s) (noted (yardIn s .first) lane serial before (yardIn s .frames))) (knownsIn s)
+unfolding yardIn
+noted-held s t lane serial before h e = go (ltb before (getD s 2 0)) refl
+  where
+    go : (b : Bool) → ltb before (getD s 2 0) ≡ b
+        → heldIn t ≡ whole (withFirst (yardIn s) (noted (yardIn s .first) lane serial before (yardIn s .frames))) (knownsIn s)
+    go true q = let w : t ≡ putIn s 4 128 (orderPlace lane serial) before = rw q at e in rw (frames-in s, q, w) (first-held s (orderPlace lane serial) before h)
+    go false q = let w : t ≡ s = rw q at e in rw (frames-in s, q, w) (held-whole s h)
+
+order-row : (s row t m air exit : List ℕ) (lane word frames : ℕ) (g : Frame) (a : orders.OrderAnswer) → lane < 8 → word ≤ 65535 → length s ≡ 4476
+    → length air ≡ 65536 → length row ≡ 543 → frames ≡ yardIn s .frames → stepped a row g ≡ ordersBy (knownIn (rowOf s lane)) (postIn (rowOf s lane)) word
+    → Sends (putPart s (132 + 543 * lane) 543 row) t air exit g → Noted t m lane (g .serial .0) frames
+    → after a m exit ≡ ordersIn (heldIn s) air lane word
+order-row s row t m air exit lane word frames g a small w long la size ef ed es em =
+    let s′ : List ℕ = putPart s (132 + 543 * lane) 543 row in
+    let y : Yard = yardIn s in
+    let at = at-yard s lane small in
+    let ka = at-knowns s lane small in
+    let after : ℕ = framesAfter air (yardIn s .frames) g in
+    let ls : length s′ ≡ 4476 = row-long s lane row long small size in
+    let fr : getD s′ 2 0 ≡ yardIn s .frames = front-cell s lane row long small size 2 (omega arith) ∙ sym (frames-in s) in
+    let et : t ≡ set s′ 2 after = rw fr at (es .0) in
+    let lt : length t ≡ 4476 = rw et (length-set s′ 2 after ∙ ls) in
+    let yt : yardIn t ≡ withPost (yardIn s) lane (postIn row) after = rw (et, frames-yard s′ after ls, row-yard s lane row long small size) in
+    let kt : knownsIn t ≡ set (knownsIn s) lane (knownIn row) = rw (et, frames-knowns s′ after ls, row-knowns s lane row long small size) in
+    let n = same-noted (knownIn (rowOf s lane)) (yardIn s .first) air (postIn (rowOf s lane)) word lane (yardIn s .frames) (stepped a row g) ed in
+    let h : heldIn m ≡ whole (withOrder (yardIn s) lane (postIn row) after) (set (knownsIn s) lane (knownIn row))
+    = noted-held t m lane (g .serial .0) frames lt em ∙ rw (yt, kt, ef, n)
+    in
+    rw (h, held-whole s long) (runs (yardIn s) (knownsIn s) air exit lane word after (stepped a row g) small w la (rw (ka, at) ed) refl (rw (← fr) (es .1)))
+
+-- whose row is lent
+pub order-runs : (s row t m air exit : List ℕ) (lane word frames : ℕ) (g : Frame) (a : orders.OrderAnswer) → lane < 8 → word ≤ 65535 → length s ≡ 4476
+    → length air ≡ 65536 → length row ≡ length (lentRow s lane) → frames ≡ getD s 2 0
+    → stepped a row g ≡ ordersBy (knownIn (lentRow s lane)) (postIn (lentRow s lane)) word
+    → Sends (rowBack s lane row) t air exit g → Noted t m lane (g .serial .0) frames
+    → after a m exit ≡ ordersIn (heldIn s) air lane word
+order-runs s row t m air exit lane word frames g a small w long la lr ef ed es em =
+    order-row s row t m air exit lane word frames g a small w long la (lr ∙ lent-length s lane long small) (ef ∙ sym (frames-in s)) (rw (lent-is s lane) at ed) (rw (back-is s lane row) at es) em

@@ -1,20 +1,23 @@
--- The number and the values that each step in a yard answers, for the contracts of the steps. Assumes nothing.
+-- The number and the values that each step on a state answers, of the arguments alone. Assumes nothing.
 use Prim.Native.Nat.{ℕ, _+_}
 use mathlib.Core.Bool.{cond}
-use mathlib.Core.List.{List}
+use mathlib.Core.List.{List, []}
 use lib.Dec.{ltb, eqb}
+use lib.ListN.{getD}
 use Rattle.air.specs.Air.{badAir}
-use Rattle.post.specs.Record.{lastOf}
-use Rattle.post.specs.Taking.{ownTaken, raisedPost, taken}
-use Rattle.deliver.specs.Delivery.{delivered}
-use Rattle.steps.specs.Refusals.{isNext, orderRefusal, hearRefusal}
+use Rattle.steps.specs.Refusals.{orderRefusal, hearRefusal}
+use Rattle.steps.specs.Knowing.{orderCountBy, hearCountBy}
 use Rattle.yard.specs.Yards.{postAt}
 use Rattle.yard.specs.Singles.{stopsHearing, frameAt, stopsBeacon}
-use Rattle.yard.specs.declared.Yard.{Yard}
+use Rattle.yard.specs.States.{Held, whole, other}
 
--- the number that an order answers, or 0: 4, 5, 13, then 21 to 24
-unfoldable pub orderRefusalInYard : List ℕ → Yard → ℕ → ℕ → ℕ
-orderRefusalInYard air y lane word =
+-- the number that an order answers, or 0: 4, 5, 12, 13, then 21 to 24
+unfoldable pub orderRefusalIn : Held → List ℕ → ℕ → ℕ → ℕ
+orderRefusalIn (other cells) air lane word =
+    cond (ltb 7 lane) 4
+    (cond (ltb 65535 word) 5
+    12)
+orderRefusalIn (whole y knowns) air lane word =
     cond (ltb 7 lane) 4
     (cond (ltb 65535 word) 5
     (cond (badAir air) 13
@@ -22,31 +25,34 @@ orderRefusalInYard air y lane word =
 
 -- "An order answers with its serial, its stamp and the count delivered": the post's next serial and clock, and how many orders
 -- then join its log; 0 where it is refused
-unfoldable pub orderSerialInYard : List ℕ → Yard → ℕ → ℕ → ℕ
-orderSerialInYard air y lane word = cond (eqb (orderRefusalInYard air y lane word) 0) (postAt y lane .serial .0 + 1) 0
+unfoldable pub orderSerialIn : Held → List ℕ → ℕ → ℕ → ℕ
+orderSerialIn (other cells) air lane word = 0
+orderSerialIn (whole y knowns) air lane word = cond (eqb (orderRefusalIn (whole y knowns) air lane word) 0) (postAt y lane .serial .0 + 1) 0
 
-unfoldable pub orderStampInYard : List ℕ → Yard → ℕ → ℕ → ℕ
-orderStampInYard air y lane word = cond (eqb (orderRefusalInYard air y lane word) 0) (postAt y lane .clock .0 + 1) 0
+unfoldable pub orderStampIn : Held → List ℕ → ℕ → ℕ → ℕ
+orderStampIn (other cells) air lane word = 0
+orderStampIn (whole y knowns) air lane word = cond (eqb (orderRefusalIn (whole y knowns) air lane word) 0) (postAt y lane .clock .0 + 1) 0
 
-unfoldable pub orderCountInYard : List ℕ → Yard → ℕ → ℕ → ℕ
-orderCountInYard air y lane word = cond (eqb (orderRefusalInYard air y lane word) 0) (delivered (ownTaken (postAt y lane) word) .count) 0
+unfoldable pub orderCountIn : Held → List ℕ → ℕ → ℕ → ℕ
+orderCountIn (other cells) air lane word = 0
+orderCountIn (whole y knowns) air lane word =
+    cond (eqb (orderRefusalIn (whole y knowns) air lane word) 0) (orderCountBy (getD knowns lane []) (postAt y lane) word) 0
 
--- the number that a hearing answers, or 0: 4, what stops it, then what the post's own step refuses
-unfoldable pub hearRefusalInYard : List ℕ → Yard → ℕ → ℕ → ℕ
-hearRefusalInYard air y lane k =
+-- the number that a hearing answers, or 0: 4, 12, what stops it, then what the post's own step refuses
+unfoldable pub hearRefusalIn : Held → List ℕ → ℕ → ℕ → ℕ
+hearRefusalIn (other cells) air lane k = cond (ltb 7 lane) 4 12
+hearRefusalIn (whole y knowns) air lane k =
     let p = postAt y lane in
     let stops = stopsHearing air p (y .frames) k in
     cond (ltb 7 lane) 4 (cond (eqb stops 0) (hearRefusal p (frameAt air k)) stops)
 
--- "each carrying the count delivered": how many orders join the log once the order is taken, or the entries alone; 0 where it is refused
-unfoldable pub hearCountInYard : List ℕ → Yard → ℕ → ℕ → ℕ
-hearCountInYard air y lane k =
-    let p = postAt y lane in
-    let f = frameAt air k in
-    cond (eqb (hearRefusalInYard air y lane k) 0)
-    (cond (isNext f (lastOf p (f .lane))) (delivered (taken p f) .count) (delivered (raisedPost p f) .count))
-    0
+-- "each carrying the count delivered": how many orders join the log; 0 where it is refused
+unfoldable pub hearCountIn : Held → List ℕ → ℕ → ℕ → ℕ
+hearCountIn (other cells) air lane k = 0
+hearCountIn (whole y knowns) air lane k =
+    cond (eqb (hearRefusalIn (whole y knowns) air lane k) 0) (hearCountBy (getD knowns lane []) (postAt y lane) (frameAt air k)) 0
 
--- the number that a beacon answers, or 0: 4, 13, 21, 27
-unfoldable pub beaconRefusalInYard : List ℕ → Yard → ℕ → ℕ
-beaconRefusalInYard air y lane = cond (ltb 7 lane) 4 (stopsBeacon air (postAt y lane) (y .beacons))
+-- the number that a beacon answers, or 0: 4, 12, 13, 21, 27
+unfoldable pub beaconRefusalIn : Held → List ℕ → ℕ → ℕ
+beaconRefusalIn (other cells) air lane = cond (ltb 7 lane) 4 12
+beaconRefusalIn (whole y knowns) air lane = cond (ltb 7 lane) 4 (stopsBeacon air (postAt y lane) (y .beacons))

@@ -7,7 +7,7 @@ use lib.ListN.{set}
 use Rattle.frame.specs.Layout.{frameOf}
 use Rattle.frame.specs.Refusals.{readRefusal}
 use Rattle.frame.specs.declared.Frame.{Frame}
-use Rattle.air.specs.Air.{badAir, notOnAir, stretchAt, placeRefusal, airWith}
+use Rattle.air.specs.Air.{badAir, notOnAir, stretchAt, placeRefusal, framesWith}
 use Rattle.cells.specs.Tables.{orderPlace}
 use Rattle.post.specs.declared.Post.{Post}
 use Rattle.steps.specs.Refusals.{notInYard}
@@ -15,18 +15,40 @@ use Rattle.steps.specs.Steps.{orderStep, hearStep, beaconStep}
 use Rattle.steps.specs.declared.OrderAnswer as orders
 use Rattle.steps.specs.declared.HearAnswer as hearings
 use Rattle.steps.specs.declared.BeaconAnswer as beaconing
-use Rattle.yard.specs.Yards.{postAt}
-use Rattle.yard.specs.declared.Yard.{Yard}
-use Rattle.yard.specs.declared.PostOrdered.{PostOrdered}
-use Rattle.yard.specs.declared.PostHeard.{PostHeard}
-use Rattle.yard.specs.declared.PostBeaconed.{PostBeaconed}
-use Rattle.yard.specs.declared.YardOrdered.{YardOrdered}
-use Rattle.yard.specs.declared.YardHeard.{YardHeard}
-use Rattle.yard.specs.declared.YardBeaconed.{YardBeaconed}
+use Rattle.yard.specs.Yards.{Yard, postAt}
 
 -- "numbered from 0 as broadcast": a broadcast is the air's next frame. Where there is none (kind 0), or no room, nothing is written or counted.
 unfoldable pub framesAfter : List ℕ → ℕ → Frame → ℕ
 framesAfter air frames f = cond (eqb (placeRefusal air frames f) 0) (frames + 1) frames
+
+-- ---- what a step leaves: its answer, and the post and the count of frames, or the yard; a beacon leaves the post as it is
+
+pub record PostOrdered : Type 0 where
+  pub answer : orders.OrderAnswer
+  pub post : Post
+  pub frames : ℕ
+
+pub record PostHeard : Type 0 where
+  pub answer : hearings.HearAnswer
+  pub post : Post
+  pub frames : ℕ
+
+pub record PostBeaconed : Type 0 where
+  pub answer : beaconing.BeaconAnswer
+  pub frames : ℕ
+  pub beacons : ℕ
+
+pub record YardOrdered : Type 0 where
+  pub answer : orders.OrderAnswer
+  pub yard : Yard
+
+pub record YardHeard : Type 0 where
+  pub answer : hearings.HearAnswer
+  pub yard : Yard
+
+pub record YardBeaconed : Type 0 where
+  pub answer : beaconing.BeaconAnswer
+  pub yard : Yard
 
 -- ---- order: 4, 5, 13, then 21 to 24 of the post's own step
 
@@ -47,7 +69,7 @@ postOrders air p frames word =
 
 -- the air after it
 unfoldable pub postOrdersAir : List ℕ → Post → ℕ → ℕ → List ℕ
-postOrdersAir air p frames word = cond (eqb (stopsOrder air word) 0) (airWith air frames (orderStep p word .frame)) air
+postOrdersAir air p frames word = cond (eqb (stopsOrder air word) 0) (framesWith air frames (orderStep p word .frame)) air
 
 -- the number of the first frame of each order: that of the broadcast that sends it
 unfoldable pub firstAfter : Yard → ℕ → PostOrdered → List ℕ
@@ -104,7 +126,7 @@ postHears air p frames k =
 
 -- the air after it
 unfoldable pub postHearsAir : List ℕ → Post → ℕ → ℕ → List ℕ
-postHearsAir air p frames k = cond (eqb (stopsHearing air p frames k) 0) (airWith air frames (hearStep p (frameAt air k) .frame)) air
+postHearsAir air p frames k = cond (eqb (stopsHearing air p frames k) 0) (framesWith air frames (hearStep p (frameAt air k) .frame)) air
 
 -- y with another record of a lane, and so many frames on the air
 abbrev pub withPost : Yard → ℕ → Post → ℕ → Yard
@@ -143,7 +165,7 @@ postBeacons air p frames beacons =
 
 -- the air after it
 unfoldable pub postBeaconsAir : List ℕ → Post → ℕ → ℕ → List ℕ
-postBeaconsAir air p frames beacons = cond (eqb (stopsBeacon air p beacons) 0) (airWith air frames (beaconStep p .frame)) air
+postBeaconsAir air p frames beacons = cond (eqb (stopsBeacon air p beacons) 0) (framesWith air frames (beaconStep p .frame)) air
 
 -- y with so many frames on the air, and so many beacons sent
 abbrev pub withBeacons : Yard → ℕ → ℕ → Yard

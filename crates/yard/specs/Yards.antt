@@ -1,7 +1,7 @@
 -- The yard, and a fresh one: document 01, "Posts, stamps, serials" and "The words of demand 3". Assumes nothing.
 use Prim.Native.Nat.{ℕ}
 use mathlib.Core.Bool.{cond}
-use mathlib.Core.List.{[], map}
+use mathlib.Core.List.{List, [], map}
 use lib.Count.{ones}
 use lib.Dec.{eqb}
 use lib.ListN.{getD, replicate}
@@ -9,8 +9,16 @@ use Rattle.frame.specs.Lanes.{lanes}
 use Rattle.cells.specs.Sets.{roleAstray}
 use Rattle.post.specs.declared.Post.{Post}
 use Rattle.post.specs.Record.{freshPost}
-use Rattle.yard.specs.declared.Yard.{Yard}
-use Rattle.yard.specs.declared.FreshYard.{FreshYard}
+
+-- the lanes that have a post, the sources among them, a record for each lane, how many frames and beacons were sent, and for each
+-- order the number of its first frame, at the order's place
+pub record Yard : Type 0 where
+  pub present : ℕ
+  pub sources : ℕ
+  pub posts : List Post
+  pub frames : ℕ
+  pub beacons : ℕ
+  pub first : List ℕ
 
 -- what a list of posts gives past its end
 abbrev pub noPost : Post
@@ -50,6 +58,11 @@ yardRefusal present sources dests =
     cond (eqb (ones present) 0) 3
     (cond (roleAstray present sources dests) 12
     0)
+
+-- a fresh yard and 0, or a refusal
+pub record FreshYard : Type 0 where
+  pub refusal : ℕ
+  pub yard : Yard
 
 -- the fresh yard of three sets of lanes, or the refusal beside a yard without posts
 unfoldable pub yardMade : ℕ → ℕ → ℕ → FreshYard

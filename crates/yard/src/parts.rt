@@ -1,75 +1,79 @@
-// What the steps of a yard are made of: a fresh yard, the frame read from the air, the broadcast put on it.
-use crate::Yard;
+// What the steps of a yard are made of: the frame read from the air for a post, the broadcast put on it, what is noted of it.
+use crate::BEACONS;
+use crate::FIRST;
+use crate::FRAMES;
 use frame::Frame;
 use frame::FrameRead;
 use frame::Serial;
-use post::Post;
+use row::SerialCell;
 ghost use mathlib.Core.Path.{_≡_};
 ghost use mathlib.Core.Bool.{cond};
 ghost use lib.Dec.{ltb};
-ghost use lib.ListN.{set};
-ghost use Rattle.frame.specs.ReadWrite.{readOf};
-ghost use Rattle.air.specs.Air.{airWith};
-ghost use Rattle.air.specs.Stretch.{stretchOf};
+ghost use lib.ListN.{getD, set};
+ghost use Rattle.air.specs.Air.{framesWith};
 ghost use Rattle.cells.specs.Tables.{orderPlace};
-ghost use Rattle.yard.specs.Yards.{freshYard};
-ghost use Rattle.yard.specs.Singles.{framesAfter, absentRefusal};
+ghost use Rattle.row.specs.Rows.{putIn, postIn};
+ghost use Rattle.yard.specs.Singles.{framesAfter, absentRefusal, stopsHearing, frameAt, stopsBeacon};
 
-// Each of the eight records fresh, no frame on the air yet, no beacon sent.
-pub(crate) fn fresh_yard(present: u8, sources: u8, dests: u8) -> Yard
-    ensures { λ r. ⌜ r ≡ freshYard present sources dests ⌝ }
-{
-    let posts = [
-        Post::new(0, present, sources, dests),
-        Post::new(1, present, sources, dests),
-        Post::new(2, present, sources, dests),
-        Post::new(3, present, sources, dests),
-        Post::new(4, present, sources, dests),
-        Post::new(5, present, sources, dests),
-        Post::new(6, present, sources, dests),
-        Post::new(7, present, sources, dests),
-    ];
-    Yard {
-        present: present,
-        sources: sources,
-        posts: posts,
-        frames: 0,
-        beacons: 0,
-        first: [0; 128],
-    }
-}
-
-// The frame that the air gives back for k, read.
-pub fn read_frame(air: &[u8], frames: u16, k: usize) -> FrameRead
-    ensures { λ r. ⌜ r ≡ readOf (stretchOf (now (air .entry)) frames k) ⌝ }
+// Frame k as the post of a row is to hear it: what stops the hearing (13, 21, 25, what reading refuses), or 0 and the frame. The air
+// gives back that stretch of itself, which the reader then decodes; where it gives back none, `absent` tells why.
+pub(crate) fn frame_for(row: &[u16], air: &[u8], frames: u16, k: usize) -> FrameRead
+    ensures { λ r. ⌜ r .refusal ≡ stopsHearing (now (air .entry)) (postIn (now (row .entry))) frames k ⌝ }
+    ensures frame { λ r. ⌜ (r .refusal ≡ 0 → r .frame ≡ frameAt (now (air .entry)) k) ⌝ }
 {
     let part = air::stretch(air, frames as usize, k);
+    if part.len() == 0 {
+        let none = Frame::none();
+        return FrameRead {
+            refusal: absent(row, air, frames, k),
+            frame: none,
+        };
+    }
     Frame::read(part)
 }
 
 // 13, 21 or 25 where frame k is not on the air, or 0.
-pub fn absent(air: &[u8], lane: u8, posts: u8, frames: u16, k: usize) -> u8
-    ensures { λ r. ⌜ r ≡ absentRefusal (now (air .entry)) lane posts frames k ⌝ }
+fn absent(row: &[u16], air: &[u8], frames: u16, k: usize) -> u8
+    ensures { λ r. ⌜ r ≡ absentRefusal (now (air .entry)) (postIn (now (row .entry)) .lane) (postIn (now (row .entry)) .posts) frames k ⌝ }
 {
     let number = air::refusal(air, frames as usize, k);
-    cells::pick((number == 25) & !cells::has(posts, lane), 21, number)
+    let here = cells::has(row::posts(row), row::lane(row));
+    cells::pick((number == 25) & !here, 21, number)
 }
 
-// Puts f on the air as its next frame; returns how many there are then.
-pub fn broadcast(air: &mut [u8], frames: u16, f: Frame) -> u16
-    ensures { λ r. ⌜ r ≡ framesAfter (now (air .entry)) frames f ⌝ }
-    ensures bytes { λ _. ⌜ now (air .exit) ≡ airWith (now (air .entry)) frames f ⌝ }
+// Puts f on the air as its next frame, and counts it; most hearings broadcast nothing (kind 0).
+pub(crate) fn broadcast(state: &mut [u16], air: &mut [u8], f: Frame)
+    requires { do ⌜ (← ⟦air.len()⟧) ≡ 65536 ⌝ }
+    ensures { λ _. ⌜ now (state .exit) ≡ set (now (state .entry)) 2 (framesAfter (now (air .entry)) (getD (now (state .entry)) 2 0) f) ⌝ }
+    ensures bytes { λ _. ⌜ now (air .exit) ≡ framesWith (now (air .entry)) (getD (now (state .entry)) 2 0) f ⌝ }
 {
-    let number = air::write(air, frames as usize, f);
-    if number == 0 { frames + 1 } else { frames }
-}
-
-// Where an order was broadcast as frame `before`, that is the number of its first frame. The table has the shape of the words:
-// a number of 16 bits at each order's place.
-pub fn note_first(first: &mut [u16; 128], lane: u8, serial: Serial, before: u16, after: u16)
-    ensures { λ _. ⌜ now (first .exit) ≡ cond (ltb before after) (set (now (first .entry)) (orderPlace lane (serial .0)) before) (now (first .entry)) ⌝ }
-{
-    if before < after {
-        cells::put_word_at(first, cells::order_place(lane, serial), before)
+    if f.kind == 0 {
+        return;
     }
+    let frames = row::get(state, FRAMES);
+    let number = air::write(air, frames as usize, f);
+    if number == 0 {
+        row::put(state, FRAMES, frames + 1);
+    }
+}
+
+// Where an order was broadcast since there were `before` frames, that is the number of its first frame.
+pub(crate) fn note_first(state: &mut [u16], lane: u8, serial: Serial, before: u16)
+    ensures { λ _. ⌜ now (state .exit) ≡ cond (ltb before (getD (now (state .entry)) 2 0)) (putIn (now (state .entry)) 4 128 (orderPlace lane (serial .0)) before) (now (state .entry)) ⌝ }
+{
+    let after = row::get(state, FRAMES);
+    if before < after {
+        let place = row::order_place(lane, SerialCell(serial.0 as u16));
+        row::put_in(state, FIRST, 128, place, before);
+    }
+}
+
+// What stops a beacon of the post of a row, where so many were sent: 13, 21 or 27, or 0.
+pub(crate) fn beacon_refusal(row: &[u16], air: &[u8], beacons: u16) -> u8
+    ensures { λ r. ⌜ r ≡ stopsBeacon (now (air .entry)) (postIn (now (row .entry))) beacons ⌝ }
+{
+    let here = cells::has(row::posts(row), row::lane(row));
+    let number = cells::pick(BEACONS <= beacons, 27, 0);
+    let number = cells::pick(!here, 21, number);
+    cells::pick(air.len() != air::LENGTH, 13, number)
 }

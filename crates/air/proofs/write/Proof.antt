@@ -1,7 +1,7 @@
 use native.Mathlib.Omega.{arith}
 use borrow.Author.Needs.{needs}
 use native.Mathlib.Nat.{add-sub-cancel-left}
-use Rattle.air.proofs.Laws.{write-no-place, write-bad, write-short-air, write-part}
+use Rattle.air.proofs.Laws.{write-no-place, write-part}
 use Rattle.air.proofs.write.Statement.{statement}
 use Rattle.air.proofs.write.Tie as tie
 
@@ -9,15 +9,7 @@ returns : tie.Need-returns
 returns c = write-no-place _ _ _ (omega arith)
 
 returns-2 : tie.Need-returns-2
-returns-2 c = write-bad _ _ _ _ (omega arith) (c .before .refusal .ensures) (c .if3 .taken)
-
-returns-3 : tie.Need-returns-3
-returns-3 c = write-short-air _ _ _ _ (omega arith) (c .before .refusal .ensures) (c .if3 .left) (c .before .before .if2 .taken)
-
-returns-4 : tie.Need-returns-4
-returns-4 c =
-    rw (add-sub-cancel-left _ 32)
-    (write-part _ _ _ _ _ _ (c .before .before .before .before .if2 .left) (c .before .before .before .before .before .if1 .left) (rw (add-sub-cancel-left _ 32)) (c .before .before .write .ensures .0) (c .before .before .write .ensures .1 .0))
+returns-2 c = rw (add-sub-cancel-left _ 32) (write-part _ _ _ _ _ _ (rw (add-sub-cancel-left _ 32)) (c .before .before .write .ensures .0) (c .before .before .write .ensures .1 .0))
 
 pub write-spec : {M : Type 1} → statement M
-write-spec = tie.close (tie.spec returns (λ c κs. search needs) returns-2 returns-3 (λ c. search needs) (λ c. search needs) (λ c. search needs) (λ c. search needs) (λ c. search needs) (λ c κs. search needs) (λ c. search needs) returns-4)
+write-spec = tie.close (tie.spec returns (λ c. search needs) (λ c. search needs) (λ c. search needs) (λ c. search needs) (λ c. search needs) (λ c κs. tt) (λ c. search needs) returns-2)

@@ -1,46 +1,36 @@
-use Rattle.yard.specs.Worlds.{singles}
-use Rattle.roll.specs.RollCall.{postsHearBeacons}
-use Rattle.roll.proofs.RunLaws.{withPosts}
-use Rattle.roll.proofs.YardTurns.{YardTurned, ran, beacons-more, beacons-none}
-use lib.ListN.{length, length-set, length-map}
-use Prim.Native.Nat.{_*_, _≤_, _-_}
-use mathlib.Core.Logic.{⊎-elim}
-use mathlib.Core.Path.{_≡_, _∙_, refl, sym, ap}
-use native.Mathlib.Omega.{arith}
 use borrow.Author.Needs.{needs}
+use mathlib.Core.Path.{_≡_, refl, _∙_}
+use Prim.Native.Nat.{_≤_, _-_, _*_}
+use native.Mathlib.Omega.{arith}
+use lib.ListN.{length}
+use Rattle.yard.specs.InState.{after, hereIn}
+use Rattle.roll.specs.RollCall.{postsHearBeacons}
+use Rattle.roll.specs.Calls.{ranIn}
+use Rattle.roll.proofs.Turns.{none-ran, posts-heard}
 use Rattle.roll.proofs.hear_beacons.Statement.{statement}
 use Rattle.roll.proofs.hear_beacons.Tie as tie
 
 abbrev Inv-loop : tie.InvT-loop
-Inv-loop y air₀ present sources from posts₀ frames₀ steps₀ p₀ air posts frames steps p = (p ≤ 8) × YardTurned (record { yard = y; air = air₀ }) (postsHearBeacons present sources from p) (withPosts y posts frames) air steps × (length air ≡ length air₀) × (steps ≤ 8 * p) × (length posts ≡ 8)
+Inv-loop state₀ air₀ present sources from steps₀ p₀ state air steps p = (p ≤ 8) × (length state ≡ length state₀) × (length air ≡ length air₀) × (after steps state air ≡ ranIn (hereIn state₀ air₀) (postsHearBeacons present sources from p)) × (steps ≤ 8 * p)
 
 abbrev μ-loop : tie.MeasureT-loop
-μ-loop y air₀ present sources from posts₀ frames₀ steps₀ p₀ air posts frames steps p = 8 - p
+μ-loop state₀ air₀ present sources from steps₀ p₀ state air steps p = 8 - p
 
 loop-holds : tie.Need-loop-holds Inv-loop μ-loop
-unfolding postsHearBeacons singles
-loop-holds c = (omega arith, (refl, refl), refl, omega arith, sym (length-map (c .before .before .args .y .posts) _) ∙ c .before .before .good .0 .1 .1 .1 .1 .0 .1 .0 .1)
+unfolding postsHearBeacons
+loop-holds c = (omega arith, refl, refl, none-ran _ _, omega arith)
 
 loop-again : tie.Need-loop-again Inv-loop μ-loop
-loop-again c = (
-  omega arith,
-  ⊎-elim
-      (λ w. beacons-more _ (c .before .before .before .before .before .before .args .y) _ _ _ _ _ _ _ _ _ _ _ _ _ _ (c .before .before .before .loop .inv .1) (c .before .before .loop-test .taken) (c .before .before .before .loop .inv .4) (c .before .has .ensures) (w .0 .taken) (w .3 .ensures .0) (w .8 ∙ w .3 .ensures .1 .0) (w .9) (w .10) (w .11))
-      (λ w. beacons-none _ (c .before .before .before .before .before .before .args .y) _ _ _ _ _ _ _ _ _ _ _ _ _ (c .before .before .before .loop .inv .1) (c .before .has .ensures) (w .0 .left) (w .2) (w .3) (w .1) (w .4))
-      (c .if1 .came),
-  ⊎-elim (λ w. ap length (w .8) ∙ w .3 .kept .1 .0 ∙ c .before .before .before .loop .inv .2) (λ w. ap length (w .1) ∙ c .before .before .before .loop .inv .2) (c .if1 .came),
-  ⊎-elim (λ w. omega (arith, w .11, w .3 .ensures .1 .1, c .before .before .before .loop .inv .3)) (λ w. omega (arith, w .4, c .before .before .before .loop .inv .3)) (c .if1 .came),
-  ⊎-elim (λ w. ap length (w .9) ∙ simp length-set (c .before .before .before .loop .inv .4)) (λ w. ap length (w .2) ∙ c .before .before .before .loop .inv .4) (c .if1 .came),
-)
+loop-again c = (omega arith, c .before .before .before .before .hear-sources .kept .0 ∙ c .before .before .before .before .before .before .before .before .loop .inv .1, c .before .before .before .before .hear-sources .kept .1 .0 ∙ c .before .before .before .before .before .before .before .before .loop .inv .2, posts-heard _ _ _ _ _ _ _ _ _ _ _ (c .before .before .before .before .before .before .before .before .loop .inv .3) (c .before .before .before .before .hear-sources .ensures .0), omega (arith, c .before .before .before .before .hear-sources .ensures .1, c .before .before .before .before .before .before .before .before .loop .inv .4))
 
 same-length : tie.Need-same-length Inv-loop μ-loop
-same-length c = c .before .loop .inv .2
+same-length c = c .before .loop .inv .1
+
+same-length-2 : tie.Need-same-length-2 Inv-loop μ-loop
+same-length-2 c = c .before .loop .inv .2
 
 returns : tie.Need-returns Inv-loop μ-loop
-returns c =
-    let e : c .before .loop .p ≡ 8 = omega arith in
-    let r = ran _ _ _ _ _ (rw e at (c .before .loop .inv .1)) in
-    (r .0, (r .1, omega (arith, c .before .loop .inv .3)))
+returns c = let e : c .before .loop .p ≡ 8 = omega arith in (rw e at (c .before .loop .inv .3), omega (arith, c .before .loop .inv .4))
 
 pub hear-beacons-spec : {M : Type 1} → statement M
-hear-beacons-spec = tie.close (tie.spec Inv-loop μ-loop loop-holds (λ c κs. tt) (λ c. search needs) (λ c. search needs) (λ c. search needs) (λ c κs. tt) (λ c. search needs) (λ c. search needs) (λ c. search needs) (λ c. search needs) (λ c. search needs) (λ c. search needs) loop-again same-length returns)
+hear-beacons-spec = tie.close (tie.spec Inv-loop μ-loop loop-holds (λ c κs. tt) (λ c. search needs) (λ c. search needs) (λ c. search needs) loop-again same-length same-length-2 returns)

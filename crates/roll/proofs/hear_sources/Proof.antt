@@ -1,49 +1,39 @@
-use Rattle.roll.specs.RollCall.{sourcesBelow}
-use Rattle.roll.specs.Loops.{postWorld, hearings, beaconFrames}
-use Rattle.roll.proofs.PostTurns.{PostTurned, ran, beacon-other, beacon-own, below-more}
-use lib.ListN.{length}
-use Prim.Native.Nat.{ℕ, _+_, _≤_, _-_}
-use mathlib.Core.Logic.{⊎-elim}
-use mathlib.Core.Path.{_≡_, _∙_, refl, ap}
-use native.Mathlib.Omega.{arith}
 use borrow.Author.Needs.{needs}
+use mathlib.Core.Path.{_≡_, refl, _∙_}
+use Prim.Native.Nat.{_≤_, _-_, _+_}
+use native.Mathlib.Omega.{arith}
+use lib.ListN.{length}
+use Rattle.yard.specs.InState.{after, hereIn}
+use Rattle.roll.specs.RollCall.{sourcesBelow, beaconsHeard}
+use Rattle.roll.specs.Calls.{ranIn}
+use Rattle.roll.proofs.Turns.{none-ran, not-due, due, heard-more, below-more}
 use Rattle.roll.proofs.hear_sources.Statement.{statement}
 use Rattle.roll.proofs.hear_sources.Tie as tie
 
 abbrev Inv-loop : tie.InvT-loop
-Inv-loop air₀ frames sources from p next₀ on-air₀ steps₀ below₀ i₀ air next on-air steps below i = (i ≤ 8) × PostTurned (postWorld next₀ frames air₀) (beaconFrames sources from p i) next on-air air steps × (length air ≡ length air₀) × (steps ≤ i) × (below ≡ sourcesBelow sources i) × (below ≤ i)
+Inv-loop state₀ air₀ present sources from p steps₀ k₀ i₀ state air steps k i = (i ≤ 8) × (length state ≡ length state₀) × (length air ≡ length air₀) × (after steps state air ≡ ranIn (hereIn state₀ air₀) (beaconsHeard sources from p i)) × (steps ≤ i) × (k ≡ from + sourcesBelow sources i) × (k ≤ from + i)
 
 abbrev μ-loop : tie.MeasureT-loop
-μ-loop air₀ frames sources from p next₀ on-air₀ steps₀ below₀ i₀ air next on-air steps below i = 8 - i
-
-loop-holds : tie.Need-loop-holds Inv-loop μ-loop
-unfolding beaconFrames hearings sourcesBelow
-loop-holds c = (omega arith, (refl, refl), refl, omega arith, refl, omega arith)
-
-add-below : tie.Need-add-below Inv-loop μ-loop
-add-below c = let more = below-more (c .before .before .before .before .before .before .args .sources) _ _ _ _ (c .before .before .before .before .loop .inv .4) (c .before .before .has .ensures) (c .pick .ensures) in record { fits = omega (arith, more .1) }
-
-loop-again : tie.Need-loop-again Inv-loop μ-loop
-loop-again c = (
-  omega arith,
-  ⊎-elim
-      (λ w. beacon-other _ _ _ _ _ _ _ _ _ _ _ _ _ _ _ _ (c .before .before .before .before .loop .inv .1) (c .before .before .has .ensures) (w .0 .taken) (ap (λ (n : ℕ). c .before .before .before .before .before .before .args .from + n) (c .before .before .before .before .loop .inv .4)) (w .2 .ensures .0) (w .6 ∙ w .2 .ensures .1) (w .7) (w .8) (w .9))
-      (λ w. beacon-own _ _ _ _ _ _ _ _ _ _ _ _ _ _ (c .before .before .before .before .loop .inv .1) (c .before .before .has .ensures) (w .0 .left) (w .2) (w .3) (w .1) (w .4))
-      (c .before .if1 .came),
-  ⊎-elim (λ w. ap length (w .6) ∙ w .2 .kept .1 .0 ∙ c .before .before .before .before .loop .inv .2) (λ w. ap length (w .1) ∙ c .before .before .before .before .loop .inv .2) (c .before .if1 .came),
-  ⊎-elim (λ w. omega (arith, w .9, c .before .before .before .before .loop .inv .3)) (λ w. omega (arith, w .4, c .before .before .before .before .loop .inv .3)) (c .before .if1 .came),
-  below-more (c .before .before .before .before .before .before .args .sources) _ _ _ _ (c .before .before .before .before .loop .inv .4) (c .before .before .has .ensures) (c .pick .ensures) .0,
-  below-more (c .before .before .before .before .before .before .args .sources) _ _ _ _ (c .before .before .before .before .loop .inv .4) (c .before .before .has .ensures) (c .pick .ensures) .1,
-)
-
-same-length : tie.Need-same-length Inv-loop μ-loop
-same-length c = c .before .loop .inv .2
+μ-loop state₀ air₀ present sources from p steps₀ k₀ i₀ state air steps k i = 8 - i
 
 returns : tie.Need-returns Inv-loop μ-loop
-returns c =
-    let e : c .before .loop .i ≡ 8 = omega arith in
-    let r = ran _ _ _ _ _ _ (rw e at (c .before .loop .inv .1)) in
-    (r .0, (r .1, omega (arith, c .before .loop .inv .3)))
+returns c = (not-due _ _ _ _ _ (c .before .has .ensures) (c .if1 .taken), omega arith)
+
+loop-holds : tie.Need-loop-holds Inv-loop μ-loop
+unfolding beaconsHeard sourcesBelow
+loop-holds c = (omega arith, refl, refl, none-ran _ _, omega arith, omega arith, omega arith)
+
+loop-again : tie.Need-loop-again Inv-loop μ-loop
+loop-again c = (omega arith, c .before .before .before .before .before .hear-beacon .kept .0 ∙ c .before .before .before .before .before .before .before .before .before .before .loop .inv .1, c .before .before .before .before .before .hear-beacon .kept .1 .0 ∙ c .before .before .before .before .before .before .before .before .before .before .loop .inv .2, heard-more _ _ _ _ _ _ _ _ _ _ _ _ _ (c .before .before .before .before .before .before .before .before .before .before .loop .inv .3) (c .before .before .before .before .before .before .before .before .before .before .loop .inv .5) (c .before .before .before .before .before .before .before .before .has2 .ensures) (c .before .before .before .before .before .hear-beacon .ensures .0), omega (arith, c .before .before .before .before .before .hear-beacon .ensures .1, c .before .before .before .before .before .before .before .before .before .before .loop .inv .4), below-more _ _ _ _ _ _ (c .before .before .before .before .before .before .before .before .before .before .loop .inv .5) (c .before .before .before .before .before .before .before .before .before .before .loop .inv .6) (c .before .before .before .before .before .before .before .before .has2 .ensures) (c .pick .ensures) .0, below-more _ _ _ _ _ _ (c .before .before .before .before .before .before .before .before .before .before .loop .inv .5) (c .before .before .before .before .before .before .before .before .before .before .loop .inv .6) (c .before .before .before .before .before .before .before .before .has2 .ensures) (c .pick .ensures) .1)
+
+same-length : tie.Need-same-length Inv-loop μ-loop
+same-length c = c .before .loop .inv .1
+
+same-length-2 : tie.Need-same-length-2 Inv-loop μ-loop
+same-length-2 c = c .before .loop .inv .2
+
+returns-2 : tie.Need-returns-2 Inv-loop μ-loop
+returns-2 c = let e : c .before .loop .i ≡ 8 = omega arith in (due _ _ _ _ _ _ _ _ (c .before .before .before .has .ensures) (c .before .before .if1 .left) (rw e at (c .before .loop .inv .3)), omega (arith, c .before .loop .inv .4))
 
 pub hear-sources-spec : {M : Type 1} → statement M
-hear-sources-spec = tie.close (tie.spec Inv-loop μ-loop loop-holds (λ c κs. tt) (λ c. search needs) (λ c. search needs) (λ c κs. tt) (λ c. search needs) (λ c κs. tt) add-below (λ c. search needs) (λ c. search needs) loop-again same-length returns)
+hear-sources-spec = tie.close (tie.spec Inv-loop μ-loop (λ c κs. tt) returns loop-holds (λ c. search needs) (λ c κs. tt) (λ c κs. tt) (λ c. search needs) (λ c κs. tt) (λ c. search needs) (λ c. search needs) (λ c. search needs) (λ c. search needs) loop-again same-length same-length-2 returns-2)

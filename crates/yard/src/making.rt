@@ -1,0 +1,76 @@
+// A fresh yard laid into the cells of a state. The contracts cite specs/Making.antt.
+use crate::LANES;
+use crate::PRESENT;
+use crate::ROWS;
+use crate::SOURCES;
+ghost use mathlib.Core.Path.{_≡_};
+ghost use mathlib.Core.Bool.{not, _&&_, _||_};
+ghost use lib.ListN.{length, replicate};
+ghost use Rattle.cells.specs.Sets.{hasLane, roleAstray};
+ghost use Rattle.post.specs.Record.{freshPost};
+ghost use Rattle.row.specs.Rows.{postIn, knownIn};
+ghost use Rattle.yard.specs.Making.{FreshFront, FreshBelow, SameFront};
+
+// Whether a lane without a post has a role.
+pub(crate) fn role_astray(present: u8, sources: u8, dests: u8) -> bool
+    ensures { λ r. ⌜ r ≡ roleAstray present sources dests ⌝ }
+{
+    let mut found = false;
+    for lane in 0..8u16 {
+        found = found | astray_at(present as u16, sources as u16, dests as u16, lane);
+    }
+    found
+}
+
+fn astray_at(present: u16, sources: u16, dests: u16, lane: u16) -> bool
+    ensures { λ r. ⌜ r ≡ ((hasLane sources lane || hasLane dests lane) && not (hasLane present lane)) ⌝ }
+{
+    let role = cells::has(sources, lane) | cells::has(dests, lane);
+    role & !cells::has(present, lane)
+}
+
+// The cells before the rows: the sets of posts and of sources, and 0 in all others.
+pub(crate) fn front(state: &mut [u16], present: u16, sources: u16)
+    requires { do ⌜ (← ⟦state.len()⟧) ≡ 4476 ⌝ }
+    ensures { λ _. ⌜ FreshFront (now (state .exit)) present sources ⌝ }
+{
+    clear(&mut state[0..ROWS]);
+    row::put(state, PRESENT, present);
+    row::put(state, SOURCES, sources);
+}
+
+// A fresh row for each lane.
+pub(crate) fn rows(state: &mut [u16], present: u16, sources: u16, dests: u16)
+    requires { do ⌜ (← ⟦state.len()⟧) ≡ 4476 ⌝ }
+    ensures { λ _. ⌜ FreshBelow (now (state .exit)) present sources dests 8 ⌝ }
+    ensures front { λ _. ⌜ SameFront (now (state .entry)) (now (state .exit)) ⌝ }
+{
+    for lane in 0..LANES {
+        let a = ROWS + row::LENGTH * lane;
+        let e = a + row::LENGTH;
+        fresh_row(&mut state[a..e], lane as u16, present, sources, dests);
+    }
+}
+
+// "A fresh post has clock 0, serial 0 and empty tables."
+fn fresh_row(row: &mut [u16], lane: u16, present: u16, sources: u16, dests: u16)
+    requires { do ⌜ (← ⟦row.len()⟧) ≡ 543 ⌝ }
+    ensures { λ _. ⌜ postIn (now (row .exit)) ≡ freshPost lane present sources dests ⌝ }
+    ensures known { λ _. ⌜ knownIn (now (row .exit)) ≡ replicate 8 0 ⌝ }
+{
+    clear(row);
+    row::put(row, row::LANE, lane);
+    row::put(row, row::SOURCES, sources);
+    row::put(row, row::DESTS, dests);
+    row::put(row, row::POSTS, present);
+}
+
+fn clear(cells: &mut [u16])
+    ensures { λ _. ⌜ now (cells .exit) ≡ replicate (length (now (cells .entry))) 0 ⌝ }
+{
+    let mut i = 0;
+    while i < cells.len() {
+        cells[i] = 0;
+        i += 1;
+    }
+}

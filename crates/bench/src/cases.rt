@@ -1,22 +1,10 @@
 // The case file: places, parts and numbers in it, and the text that the lines under a heading stand for.
+use scan::Scan;
+use scan::byte_at;
 use text::put_byte;
 use text::put_text;
 ghost use Prim.Native.Nat.{_-_, _≤_};
 ghost use lib.ListN.{length};
-
-// A number and the place after it.
-pub(crate) struct Number {
-    pub value: usize,
-    pub at: usize,
-}
-
-// The byte at a place; 0 past the end.
-pub(crate) fn byte_at(s: &[u8], at: usize) -> u8 {
-    if at < s.len() {
-        return s[at];
-    }
-    0
-}
 
 // The part from a place to before another; nothing where these are no places of s.
 pub(crate) fn part(s: &[u8], from: usize, to: usize) -> &[u8] {
@@ -41,54 +29,19 @@ pub(crate) fn after(s: &[u8], from: usize, byte: u8) -> usize
     at
 }
 
-pub(crate) fn is_same(a: &[u8], b: &[u8]) -> bool {
-    if a.len() != b.len() {
-        return false;
-    }
-    let mut i = 0usize;
-    while i < a.len() {
-        if a[i] != byte_at(b, i) {
-            return false;
-        }
-        i += 1;
-    }
-    true
+pub(crate) fn is_same<'a>(a: &'a [u8], b: &'a [u8]) -> bool {
+    (a.len() == b.len()) & scan::stands_at(a, 0, b)
 }
 
-// A hexadecimal digit's value; 16 for any other byte.
-fn digit(byte: u8) -> u8 {
-    match byte {
-        b'0'..=b'9' => byte - 48,
-        b'a'..=b'f' => byte - 87,
-        _ => 16,
-    }
-}
-
-// The decimal number that begins at a place, or `none` where none does.
-pub(crate) fn digits(s: &[u8], from: usize, none: usize) -> Number {
-    if digit(byte_at(s, from)) > 9 {
-        return Number {
-            value: none,
-            at: from,
-        };
-    }
-    let mut value = 0usize;
-    let mut at = from;
-    while at < s.len() {
-        let d = digit(s[at]);
-        if d > 9 {
-            return Number {
-                value: value,
-                at: at,
-            };
-        }
-        value = value % 100000 * 10 + d as usize;
-        at += 1;
-    }
-    Number {
-        value: value,
+// The number that stands at a place after a text, or `none` where there is none, and the place after it.
+pub(crate) fn number_at(s: &[u8], at: usize, text: &[u8], none: u32) -> Scan {
+    let begun = Scan {
+        ok: true,
         at: at,
-    }
+        earlier: 0,
+        latest: none,
+    };
+    scan::read_number(s, scan::read_text(s, text, begun))
 }
 
 // The text of the lines under the heading that stands at a place: how many bytes it has.
@@ -97,22 +50,21 @@ pub(crate) fn put_block(file: &[u8], heading: usize, into: &mut [u8]) -> usize {
     let mut n = 0usize;
     while at < file.len() {
         let next = after(file, at, b'\n');
-        let line = part(file, at, next);
-        let count = digits(line, 0, 1);
-        let kind = byte_at(line, count.at);
+        let times = number_at(file, at, b"", 1);
+        let kind = byte_at(file, times.at);
         if (kind != b'|') & (kind != b'+') & (kind != b'x') {
             return n;
         }
-        n = put_line(part(line, count.at, line.len()), count.value, into, n);
+        n = put_times(part(file, times.at, next), times.latest, into, n);
         at = next;
     }
     n
 }
 
 // A line's text, so many times.
-fn put_line(line: &[u8], times: usize, into: &mut [u8], to: usize) -> usize {
+fn put_times(line: &[u8], times: u32, into: &mut [u8], to: usize) -> usize {
     let mut n = to;
-    let mut i = 0usize;
+    let mut i = 0u32;
     while i < times {
         n = put_once(line, into, n);
         i += 1;
@@ -139,10 +91,17 @@ fn put_bytes(line: &[u8], into: &mut [u8], to: usize) -> usize {
     let mut n = to;
     let mut at = after(line, 0, b' ');
     while at < line.len() {
-        let high = digit(byte_at(line, at)) % 16;
-        let low = digit(byte_at(line, at + 1)) % 16;
+        let high = digit(byte_at(line, at));
+        let low = digit(byte_at(line, at + 1));
         n = put_byte(into, n, high * 16 + low);
         at = after(line, at, b' ');
     }
     n
+}
+
+// The value of a hexadecimal digit.
+fn digit(byte: u8) -> u8
+    ensures { λ r. ⌜ r ≤ 15 ⌝ }
+{
+    (byte % 16 + byte / 64 * 9) % 16
 }

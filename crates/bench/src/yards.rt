@@ -1,49 +1,63 @@
 // Scripts run in a yard, by the two functions that a host calls.
-use crate::Part;
+use crate::answers::put_cells;
 use crate::answers::put_told;
 use crate::cases::after;
-use crate::cases::byte_at;
 use crate::cases::is_same;
 use crate::cases::part;
+use scan::byte_at;
 use text::put_text;
 
-// What a script prints over an air of so many bytes, or what it leaves.
-pub(crate) fn run(script: &[u8], bytes: usize, is_printed: bool, came: &mut [u8]) -> usize {
-    let mut air = [0u8; 65537];
-    if bytes > 65537 {
+// Bytes of the longest air, and of all that a script leaves: the air, and two for each cell of the state.
+pub(crate) const AIR: usize = air::LENGTH + 1;
+
+pub(crate) const LEFT: usize = AIR + 2 * yard::LENGTH;
+
+// Where the number of frames stands after a whole air, and the last serials that the post of lane 0 took.
+const FRAMES: usize = air::LENGTH + 2 * yard::FRAMES;
+
+const LAST: usize = air::LENGTH + 2 * (yard::ROWS + row::LAST as usize);
+
+// What a script prints over the first so many bytes of an air of zeros. A script that is refused leaves them as they were.
+pub(crate) fn prints(script: &[u8], bytes: usize, air: &mut [u8], came: &mut [u8]) -> usize {
+    if bytes > air.len() {
         return 0;
     }
-    if is_printed {
-        return put_printout(script, &mut air[..bytes], came);
-    }
-    put_left(script, &mut air[..bytes], came)
-}
-
-// The printout. A script that is refused leaves the air as it was.
-fn put_printout(script: &[u8], air: &mut [u8], came: &mut [u8]) -> usize {
-    let n = script::drift_run_script(script, air, came);
+    let n = script::drift_run_script(script, &mut air[..bytes], came);
     if byte_at(came, 1) == b'b' {
-        if !is_same(air, part(&[0u8; 65537], 0, air.len())) {
+        if !is_same(air, &[0u8; AIR]) {
             return put_text(came, n, b"changed\n");
         }
     }
     n
 }
 
-// The eight bytes of the last answer, the other 7,684 of the state, and the air.
-fn put_left(script: &[u8], air: &mut [u8], came: &mut [u8]) -> usize {
-    let mut state = [0u8; 7692];
-    state::drift_script_state(script, air, &mut state);
-    let n = put_text(came, 0, part(&state, 7684, 7692));
-    let n = put_text(came, n, part(&state, 0, 7684));
-    put_text(came, n, air)
+// What a script leaves, over an air of so many zeros at the front: the air, then the cells of the state. Its last answer.
+pub(crate) fn leave(script: &[u8], bytes: usize, left: &mut [u8]) -> u64 {
+    let mut state = [0u16; yard::LENGTH];
+    if bytes > left.len() {
+        return 0;
+    }
+    let told = script::drift_script_state(script, &mut left[..bytes], &mut state);
+    put_cells(left, bytes, &state);
+    told
 }
 
-// A part of what a script leaves.
-pub(crate) fn shows(script: &[u8], p: Part, came: &mut [u8]) -> usize {
-    let mut left = [0u8; 73229];
-    run(script, 65536, false, &mut left);
-    put_text(came, 0, part(part(&left, p.from, 73229), 0, p.length))
+// A frame, how many frames are on the air, or the last serials that a post took.
+pub(crate) fn shows(script: &[u8], letter: u8, number: usize, came: &mut [u8]) -> usize {
+    let mut left = [0u8; LEFT];
+    leave(script, air::LENGTH, &mut left);
+    match letter {
+        b'f' => put_text(
+            came,
+            0,
+            air::stretch(part(&left, 0, air::LENGTH), air::FRAMES, number),
+        ),
+        b'n' => put_text(came, 0, part(&left, FRAMES, FRAMES + 2)),
+        _ => {
+            let last = LAST + 2 * row::LENGTH * (number % yard::LANES);
+            put_text(came, 0, part(&left, last, last + 2 * yard::LANES))
+        }
+    }
 }
 
 // The other script where both leave the same yard and the same air, else nothing.
@@ -60,11 +74,11 @@ pub(crate) fn equals<'a>(
 }
 
 fn leave_same<'a>(script: &'a [u8], other: &'a [u8], bytes: usize) -> bool {
-    let mut left = [0u8; 73229];
-    let mut right = [0u8; 73229];
-    let n = run(script, bytes, false, &mut left);
-    let m = run(other, bytes, false, &mut right);
-    is_same(part(&left, 8, n), part(&right, 8, m))
+    let mut left = [0u8; LEFT];
+    let mut right = [0u8; LEFT];
+    leave(script, bytes, &mut left);
+    leave(other, bytes, &mut right);
+    is_same(&left, &right)
 }
 
 // What each step answers, or the last one alone.
@@ -83,10 +97,9 @@ pub(crate) fn answers(script: &[u8], bytes: usize, every: bool, came: &mut [u8])
 
 // What the last line of a script answers, which begins at a place. A refused step leaves yard and air as they were.
 fn put_answer(script: &[u8], at: usize, bytes: usize, came: &mut [u8], to: usize) -> usize {
-    let mut left = [0u8; 73229];
-    run(script, bytes, false, &mut left);
-    let n = put_told(&left, came, to);
-    if byte_at(&left, 0) == 0 {
+    let told = leave(script, bytes, &mut [0u8; LEFT]);
+    let n = put_told(told, came, to);
+    if told % 256 != 0 {
         if !leave_same(script, part(script, 0, at), bytes) {
             return put_text(came, n, b"changed\n");
         }

@@ -2,33 +2,34 @@
 use mathlib.Core.Path.{_≡_, refl, ap, sym, _∙_}
 use mathlib.Core.Bool.{Bool, true, false, _&&_}
 use mathlib.Core.List.{List, [], _∷_, _++_, map-append, append-nil, append-assoc}
-use Prim.Native.Nat.{ℕ, _+_, _/_, _<_, _≤_}
+use Prim.Native.Nat.{ℕ, _+_, _-_, _/_, _<_, _≤_, min}
 use native.Mathlib.Numerals.{add-one}
 use native.Mathlib.Omega.{arith}
 use borrow.Author.Tests.{ltb-true, ltb-false}
 use lib.Dec.{ltb}
-use lib.ListN.{length, take, getD}
+use lib.ListN.{length, take, getD, length-take, length-drop}
 use lib.Seq.{take-suc, take-all}
 use Rattle.text.specs.Bytes.{bytes}
 use Rattle.text.specs.Decimal.{decimal}
 use Rattle.text.specs.Writing.{Out, wrote}
 use Rattle.text.proofs.Laws.{next}
-use Rattle.frame.specs.declared.Stamp.{Stamp}
+use Rattle.post.specs.declared.Post.{Post}
+use Rattle.roll.specs.Logs.{orderAt}
+use Rattle.row.specs.Rows.{part, postIn}
 use Rattle.roll.specs.Runs.{Order}
 use Rattle.meaning.specs.Texts.{itemText, itemsText}
-use Rattle.printout.specs.Items.{itemOf, itemsOf}
+use Rattle.printout.specs.Items.{itemsOf}
 
 -- a text and a number after what is written
 pub labelled : (o : Out) (t a b : List ℕ) {p q : Out} → p ≡ wrote o t → q ≡ wrote p (a ++ b) → q ≡ wrote o (t ++ a ++ b)
 labelled o t a b e f = rw (append-assoc t a b) (next o t (a ++ b) e f)
 
 -- an item, from the stamp and the word read at its place
-pub item-wrote : (o p q r z : Out) (stamps words : List ℕ) (place : ℕ) (stamp : Stamp) (word : ℕ)
-    → stamp ≡ record { 0 = getD stamps place 0 } → word ≡ getD words place 0
-    → p ≡ wrote o (bytes " (" ++ decimal (stamp .0)) → q ≡ wrote p (bytes " " ++ decimal (place / 16)) → r ≡ wrote q (bytes " " ++ decimal word) → z ≡ wrote r (bytes ")")
-    → z ≡ wrote o (itemOf stamps words place)
+pub item-wrote : (o p q r z : Out) (post : Post) (place stamp word : ℕ) → stamp ≡ getD (post .stamps) place 0 → word ≡ getD (post .words) place 0
+    → p ≡ wrote o (bytes " (" ++ decimal stamp) → q ≡ wrote p (bytes " " ++ decimal (place / 16)) → r ≡ wrote q (bytes " " ++ decimal word) → z ≡ wrote r (bytes ")")
+    → z ≡ wrote o (itemText (orderAt post place))
 unfolding itemText
-item-wrote o p q r z stamps words place stamp word es ew e1 e2 e3 e4 =
+item-wrote o p q r z post place stamp word es ew e1 e2 e3 e4 =
     rw (es, ew) at (next _ _ _ (labelled _ _ (bytes " ") _ (labelled _ _ (bytes " ") _ e1 e2) e3) e4)
 
 -- one item more at the end
@@ -38,11 +39,10 @@ items-one [] x = append-nil (itemText x)
 items-one (y ∷ l) x = ap (λ (t : List ℕ). itemText y ++ t) (items-one l x) ∙ sym (append-assoc (itemText y) (itemsText l) (itemText x))
 
 -- the item at place k of a log after those before it
-pub items-more : (o p q : Out) (stamps words log : List ℕ) (k : ℕ) → k < length log
-    → p ≡ wrote o (itemsOf stamps words (take k log)) → q ≡ wrote p (itemOf stamps words (getD log k 0))
-    → q ≡ wrote o (itemsOf stamps words (take (k + 1) log))
-items-more o p q stamps words log k h e f =
-    rw (add-one, take-suc log k 0, map-append, items-one) (next _ _ _ e f)
+pub items-more : (o p q : Out) (post : Post) (k place : ℕ) → k < length (post .log) → p ≡ wrote o (itemsOf post k) → place ≡ getD (post .log) k 0
+    → q ≡ wrote p (itemText (orderAt post place)) → q ≡ wrote o (itemsOf post (k + 1))
+items-more o p q post k place h e ep f =
+    rw (add-one, take-suc (post .log) k 0, map-append, items-one) (next _ _ _ e (rw ep at f))
 
 -- both tests of the loop over a log
 pub tests-hold : (k n m : ℕ) → (ltb k n && ltb k m) ≡ true → (k < n) × (k < m)
@@ -64,3 +64,12 @@ items-done log k n low h = go (ltb k n) refl (ltb k (length log)) refl h where
       let s : n ≤ k = ltb-false _ _ f in
       let e : k ≡ n = omega arith in
       ap (λ (i : ℕ). take i log) e
+
+-- how many cells of the log a row has
+pub cells-none : (l : List ℕ) → length l < 414 → 0 ≡ length (postIn l .log)
+unfolding postIn part
+cells-none l h = sym (simp (length-take, length-drop) (omega arith))
+
+pub cells-some : (l : List ℕ) (n : ℕ) → 414 ≤ length l → n ≡ min (length l - 414) 128 → n ≡ length (postIn l .log)
+unfolding postIn part
+cells-some l n h e = simp (length-take, length-drop) (omega arith)

@@ -1,18 +1,18 @@
 // The lines of the printout into a lent buffer. The contracts cite Texts.antt of the crate `meaning`; those of private
 // functions cite specs/Items.antt besides.
-use cells::PLACES;
 use frame::Serial;
-use post::Head;
 use text::put_labelled;
 use text::put_text;
 ghost use mathlib.Core.Path.{_≡_};
-ghost use mathlib.Core.List.{List};
-ghost use Prim.Native.Nat.{ℕ};
-ghost use lib.ListN.{take};
-ghost use Rattle.post.specs.Heads.{postOf};
+ghost use lib.ListN.{length, take};
+ghost use Rattle.roll.specs.Logs.{orderAt};
+ghost use Rattle.row.specs.Rows.{postIn};
 ghost use Rattle.text.specs.Writing.{out, wrote};
-ghost use Rattle.meaning.specs.Texts.{badText, refusedText, postText};
-ghost use Rattle.printout.specs.Items.{refusalText, postHead, itemOf, itemsOf};
+ghost use Rattle.meaning.specs.Texts.{badText, refusedText, itemText, postText};
+ghost use Rattle.printout.specs.Items.{refusalText, postHead, itemsOf};
+
+// Orders of a lane.
+const ORDERS: u16 = Serial::LAST as u16;
 
 // `(bad LINE NUMBER)`
 pub fn put_bad(buffer: &mut [u8], at: usize, line: u16, number: u8) -> usize
@@ -37,67 +37,66 @@ fn put_refusal(buffer: &mut [u8], at: usize, label: &[u8], line: u16, number: u8
     put_text(buffer, a, b")\n")
 }
 
-// `(post LANE (clock CLOCK) (sent SENT) (log ITEMS))`, of a post from its numbers and the arrays that are printed.
-pub fn put_post(
-    buffer: &mut [u8],
-    at: usize,
-    h: Head,
-    stamps: &[u16; PLACES],
-    words: &[u16; PLACES],
-    log: &[u8; PLACES],
-) -> usize
-    ensures { λ r. ⌜ ((last table : List ℕ) → out (now (buffer .exit)) r ≡ wrote (out (now (buffer .entry)) at) (postText (h .lane) (postOf h last table (now (stamps .entry)) (now (words .entry)) (now (log .entry))))) ⌝ }
+// `(post LANE (clock CLOCK) (sent SENT) (log ITEMS))`, of the post in a row.
+pub fn put_post(buffer: &mut [u8], at: usize, lane: u16, row: &[u16]) -> usize
+    ensures { λ r. ⌜ out (now (buffer .exit)) r ≡ wrote (out (now (buffer .entry)) at) (postText lane (postIn (now (row .entry)))) ⌝ }
 {
-    let a = put_head(buffer, at, h.lane, h.clock.0, h.serial.0);
-    let a = put_items(buffer, a, h.logged as usize, log, stamps, words);
+    let clock = row::clock(row);
+    let serial = row::serial(row);
+    let a = put_head(buffer, at, lane, clock.0, serial.0);
+    let a = put_items(buffer, a, row);
     put_text(buffer, a, b"))\n")
 }
 
 // `(post LANE (clock CLOCK) (sent SENT) (log`
-fn put_head(buffer: &mut [u8], at: usize, lane: u8, clock: u16, sent: u8) -> usize
+fn put_head(buffer: &mut [u8], at: usize, lane: u16, clock: u16, sent: u16) -> usize
     ensures { λ r. ⌜ out (now (buffer .exit)) r ≡ wrote (out (now (buffer .entry)) at) (postHead lane clock sent) ⌝ }
 {
-    let a = put_labelled(buffer, at, b"(post ", lane as u16);
+    let a = put_labelled(buffer, at, b"(post ", lane);
     let a = put_labelled(buffer, a, b" (clock ", clock);
-    let a = put_labelled(buffer, a, b") (sent ", sent as u16);
+    let a = put_labelled(buffer, a, b") (sent ", sent);
     put_text(buffer, a, b") (log")
 }
 
-// The first n items of a log, or all that there are.
-fn put_items(
-    buffer: &mut [u8],
-    at: usize,
-    n: usize,
-    log: &[u8],
-    stamps: &[u16; PLACES],
-    words: &[u16; PLACES],
-) -> usize
-    ensures { λ r. ⌜ out (now (buffer .exit)) r ≡ wrote (out (now (buffer .entry)) at) (itemsOf (now (stamps .entry)) (now (words .entry)) (take n (now (log .entry)))) ⌝ }
+// The items of a row's log, as many as its length says, or all that there are.
+fn put_items(buffer: &mut [u8], at: usize, row: &[u16]) -> usize
+    ensures { λ r. ⌜ out (now (buffer .exit)) r ≡ wrote (out (now (buffer .entry)) at) (itemsOf (postIn (now (row .entry))) (postIn (now (row .entry)) .logged)) ⌝ }
 {
+    let n = row::logged(row) as usize;
+    let cells = log_cells(row);
     let mut a = at;
     let mut k = 0usize;
-    while (k < n) & (k < log.len()) {
-        a = put_item(buffer, a, log[k], stamps, words);
+    while (k < n) & (k < cells) {
+        a = put_item(buffer, a, row, row::log_at(row, k));
         k += 1;
     }
     a
 }
 
-// ` (STAMP LANE WORD)` of the order kept at a place.
-fn put_item(
-    buffer: &mut [u8],
-    at: usize,
-    place: u8,
-    stamps: &[u16; PLACES],
-    words: &[u16; PLACES],
-) -> usize
-    ensures { λ r. ⌜ out (now (buffer .exit)) r ≡ wrote (out (now (buffer .entry)) at) (itemOf (now (stamps .entry)) (now (words .entry)) place) ⌝ }
+// How many cells of the log a row has: 128, or fewer where it is cut short.
+fn log_cells(row: &[u16]) -> usize
+    ensures { λ r. ⌜ r ≡ length (postIn (now (row .entry)) .log) ⌝ }
 {
-    let stamp = cells::stamp_at(stamps, place as usize);
-    let lane = (place / Serial::LAST) as u16;
-    let word = cells::word_at(words, place as usize);
+    let first = row::LOG as usize;
+    if row.len() < first {
+        return 0;
+    }
+    let rest = row.len() - first;
+    if rest < cells::PLACES {
+        rest
+    } else {
+        cells::PLACES
+    }
+}
+
+// ` (STAMP LANE WORD)` of the order kept at a place.
+fn put_item(buffer: &mut [u8], at: usize, row: &[u16], place: u16) -> usize
+    ensures { λ r. ⌜ out (now (buffer .exit)) r ≡ wrote (out (now (buffer .entry)) at) (itemText (orderAt (postIn (now (row .entry))) place)) ⌝ }
+{
+    let stamp = row::stamp_at(row, place as usize);
+    let word = row::get_in(row, row::WORDS, row::ORDERS, place as usize);
     let a = put_labelled(buffer, at, b" (", stamp.0);
-    let a = put_labelled(buffer, a, b" ", lane);
+    let a = put_labelled(buffer, a, b" ", place / ORDERS);
     let a = put_labelled(buffer, a, b" ", word);
     put_text(buffer, a, b")")
 }

@@ -1,10 +1,5 @@
-pub mod RowLaws
-pub mod RowSteps
-pub mod SoundLaws
-pub mod HearingWays
-pub mod HeardLaws
-pub mod RollLaws
-pub mod PrintLaws
-pub mod TestLaws
 pub mod LineLaws
+pub mod StepWays
+pub mod PrintLaws
+pub mod Sound
 pub mod ScriptWays

@@ -1,11 +1,11 @@
--- The ways through `run_good` and `drift_run_script`. Assumes nothing.
+-- The ways through the functions that run a script. Assumes nothing.
 use mathlib.Core.Path.{_≡_, refl, sym, ap, _∙_}
 use mathlib.Core.Bool.{Bool, true, false, cond}
-use mathlib.Core.List.{List, [], _++_}
+use mathlib.Core.List.{List, _++_}
 use Prim.Native.Nat.{ℕ, _+_, _<_, _≤_}
 use native.Mathlib.Omega.{arith}
 use lib.Dec.{ltb, eqb}
-use lib.ListN.{length, drop, replicate, getD-replicate}
+use lib.ListN.{length, drop}
 use borrow.Author.Tests.{ltb-false, eqb-false, eq-eqb, ne-eqb}
 use Rattle.text.specs.Writing.{Out, out, wrote}
 use Rattle.text.proofs.Laws.{wrote-fits, next}
@@ -14,23 +14,25 @@ use Rattle.lines.specs.declared.Judged.{Judged}
 use Rattle.lines.specs.declared.Line.the-variants.{Yard, Order, Hear, Beacon, Roll, Refused}
 use Rattle.lines.specs.Lines.{lineAt, numberOf, nextOf, linesOf, judgedLines, judged}
 use Rattle.reader.proofs.LinesLaws.{line-above}
-use Rattle.post.specs.declared.Post.{Post}
-use Rattle.deliver.specs.Known.{Known}
-use Rattle.deliver.proofs.KnownLaws.{known-none}
-use Rattle.yard.specs.Yards.{freshYard}
-use Rattle.yard.specs.Worlds.{World, worldOf}
+use Rattle.yard.specs.Yards.{freshYard, yardRefusal}
+use Rattle.yard.specs.Worlds.{World}
+use Rattle.yard.specs.States.{Held, whole, heldIn, yardIn, knownsIn}
+use Rattle.yard.specs.InState.{Here, hereIn, Made, freshIn, nothingKnown}
+use Rattle.yard.specs.Sound.{Holds}
+use Rattle.yard.proofs.YardLaws.{held-whole}
+use Rattle.yard.proofs.Theorem.{state-sound}
 use Rattle.meaning.specs.Texts.{badText, postsText}
-use Rattle.meaning.specs.Script.{yardOf, worldAfter, refusedLines, scriptWorld, scriptText, printout, airAfter}
+use Rattle.meaning.specs.Script.{yardOf, scriptStart, stepLines, worldAfter, refusedLines, scriptWorld, scriptText, printout, airAfter}
 use Rattle.fits.proofs.Theorem.{fits}
 use Rattle.fits.proofs.LineLengths.{accepted}
 use Rattle.fits.proofs.FirstLine.{yard-accepted, yard-made, accepted-first}
-use Rattle.agreement.specs.Demand3.{freshWorld}
-use Rattle.agreement.proofs.Theorem.{facts}
-use Rattle.roll.specs.Runs.{run}
-use Rattle.script.specs.Run.{bytesPrinted, outputAfter, airLeft}
 use Rattle.script.specs.declared.Sets.{Sets}
-use Rattle.script.specs.Lines.{setsOf, rest}
-use Rattle.script.specs.Rows.{Rows, rows, rowPost, rowKnown, rowPosts, rowsYard, Good, Reached}
+use Rattle.script.specs.Run.{bytesPrinted, outputAfter, airLeft}
+use Rattle.script.specs.Told.{noStep, badScript, badState, lastTold}
+use Rattle.script.specs.State.{stateTold, stateHeld, stateAir}
+use Rattle.script.specs.OnState.{rest, hereAfter, refusedIn, lastIn, scriptHere, scriptKnowns, knownsOf, setsOf}
+use Rattle.script.proofs.LineLaws.{Done}
+use Rattle.script.proofs.Sound.{lines-hold, refused-same, last-same, held-is}
 
 -- a script that is not refused has 1 to 48,000 bytes
 judged-fits : (s : List ℕ) → judged s .number ≡ 0 → (0 < length s) × (length s ≤ 48000)
@@ -51,82 +53,88 @@ second-line s l from h el ef =
     let fit = judged-fits s h in
     (fit .1, line-above s 0 l from (fit .0) el ef)
 
--- line 1 of a script that is not refused makes the fresh yard of its sets
-fresh-first : (s : List ℕ) (st : Sets) (k : Line) → lineAt s 0 ≡ k → numberOf k ≡ 0 → st ≡ setsOf k
-    → yardOf k ≡ freshYard (st .present) (st .sources) (st .dests)
+-- line 1 of a script that is not refused makes the fresh yard of its sets, which is not refused
+abbrev Begins : Sets → Line → Type 0
+Begins st k = (yardOf k ≡ freshYard (st .present) (st .sources) (st .dests)) × (yardRefusal (st .present) (st .sources) (st .dests) ≡ 0)
+
+fresh-first : (s : List ℕ) (st : Sets) (k : Line) → lineAt s 0 ≡ k → numberOf k ≡ 0 → st ≡ setsOf k → Begins st k
 fresh-first s st (Yard posts sources dests next) e z es =
     let r = accepted s 0 (Yard posts sources dests next) e refl .0 in
-    rw es (yard-made posts sources dests (r .1) (r .5) (r .6))
+    rw es (yard-made posts sources dests (r .1) (r .5) (r .6), yard-accepted posts sources dests (r .1) (r .5) (r .6))
 fresh-first s st (Order lane word next) e z es = absurd (omega (arith, accepted s 0 (Order lane word next) e z .0 .0))
 fresh-first s st (Hear lane frame next) e z es = absurd (omega (arith, accepted s 0 (Hear lane frame next) e z .0 .0))
 fresh-first s st (Beacon lane next) e z es = absurd (omega (arith, accepted s 0 (Beacon lane next) e z .0 .0))
 fresh-first s st (Roll next) e z es = absurd (omega (arith, accepted s 0 (Roll next) e z .0))
 fresh-first s st (Refused number) e z es = absurd (accepted s 0 (Refused number) e z .0)
 
--- the rows of a fresh yard: all zero, and nothing is known of the logs
-abbrev pub zeroRows : Rows
-zeroRows =
-    rows (replicate 8 0) (replicate 8 0) (replicate 8 0) (replicate 8 (replicate 8 0)) (replicate 8 (replicate 136 0)) (replicate 8 (replicate 128 0))
-    (replicate 8 (replicate 128 0)) (replicate 8 (replicate 128 0)) (replicate 8 (replicate 8 0))
+begins : (s : List ℕ) (l : Line) (st : Sets) → judged s .number ≡ 0 → l ≡ lineAt s 0 → st ≡ setsOf l → Begins st (lineAt s 0)
+begins s l st good el es = fresh-first s st (lineAt s 0) refl (accepted-first s good) (es ∙ ap setsOf el)
 
-rows-fresh : (st : Sets) → rowsYard st zeroRows 0 0 (replicate 128 0) ≡ freshYard (st .present) (st .sources) (st .dests)
-unfolding rowPosts freshYard
-rows-fresh st = refl
+-- it is laid into the state
+not-refused : (y : _) (ks : List (List ℕ)) (p s d : ℕ) → yardRefusal p s d ≡ 0 → freshIn (whole y ks) p s d .number ≡ 0
+unfolding freshIn
+not-refused y ks p s d z = rw z
 
--- a row of zeros for each lane
-zero-row : (i : ℕ) → i < 8 → rowKnown zeroRows i ≡ replicate 8 0
-zero-row i low = getD-replicate {A = List ℕ} 8 i (replicate {A = ℕ} 8 0) [] low
+fresh-held : (state state′ : List ℕ) (n p s d : ℕ) → length state ≡ 4476 → yardRefusal p s d ≡ 0
+    → _≡_ {A = Made} (record { number = n; held = heldIn state′ }) (freshIn (heldIn state) p s d)
+    → heldIn state′ ≡ whole (freshYard p s d) nothingKnown
+fresh-held state state′ n p s d long z e =
+    let w = held-whole state long in
+    let k : freshIn (heldIn state) p s d .number ≡ 0 = rw w (not-refused (yardIn state) (knownsIn state) p s d z) in
+    ap (λ (m : Made). m .held) e ∙ state-sound .fresh (heldIn state) p s d k
 
-none-known : (known : List ℕ) (p : Post) → known ≡ replicate 8 0 → Known known p
-none-known known p e = rw e (known-none p)
+pub first-here : (s air state state′ : List ℕ) (l : Line) (st : Sets) (n : ℕ) → judged s .number ≡ 0 → length state ≡ 4476 → l ≡ lineAt s 0 → st ≡ setsOf l
+    → _≡_ {A = Made} (record { number = n; held = heldIn state′ }) (freshIn (heldIn state) (st .present) (st .sources) (st .dests))
+    → hereIn state′ air ≡ scriptHere s air
+first-here s air state state′ l st n good long el es e =
+    let b = begins s l st good el es in
+    let h : heldIn state′ ≡ whole (yardOf (lineAt s 0)) nothingKnown = fresh-held state state′ n (st .present) (st .sources) (st .dests) long (b .1) e ∙ rw (b .0) in
+    rw h
 
-pub zero-good : (st : Sets) → Good st zeroRows
-zero-good st = record {
-  eight = (refl, refl, refl, refl, refl, refl, refl, refl, refl);
-  known = λ i low. none-known (rowKnown zeroRows i) (rowPost st zeroRows i) (zero-row i low);
-}
+-- then its lines are run
+pub good-ran : (s : List ℕ) (l : Line) (from : ℕ) (o p : Out) (h h′ here : Here) (t : ℕ) → l ≡ lineAt s 0 → from ≡ nextOf s l → h ≡ here
+    → Done s h from o h′ p t
+    → (h′ ≡ hereAfter here (stepLines s)) × ((p ≡ wrote o (refusedIn here 1 (stepLines s))) × (t ≡ lastIn here noStep (stepLines s)))
+good-ran s l from o p h h′ here t el ef eh d = rw (← eh, ← el, ← ef) d
 
--- so the facts of a yard hold of it
-fresh-reached : (s air : List ℕ) (st : Sets) (k : Line) → lineAt s 0 ≡ k → numberOf k ≡ 0 → st ≡ setsOf k
-    → Reached (worldOf (freshYard (st .present) (st .sources) (st .dests)) air)
-unfolding run
-fresh-reached s air st (Yard posts sources dests next) e z es =
-    let r = accepted s 0 (Yard posts sources dests next) e refl .0 in
-    rw es (record {
-      fresh = freshWorld posts sources dests air;
-      steps = [];
-      holds = facts posts sources dests air (r .2) (r .3) (r .4) (yard-accepted posts sources dests (r .1) (r .5) (r .6));
-      is = refl;
-    })
-fresh-reached s air st (Order lane word next) e z es = absurd (omega (arith, accepted s 0 (Order lane word next) e z .0 .0))
-fresh-reached s air st (Hear lane frame next) e z es = absurd (omega (arith, accepted s 0 (Hear lane frame next) e z .0 .0))
-fresh-reached s air st (Beacon lane next) e z es = absurd (omega (arith, accepted s 0 (Beacon lane next) e z .0 .0))
-fresh-reached s air st (Roll next) e z es = absurd (omega (arith, accepted s 0 (Roll next) e z .0))
-fresh-reached s air st (Refused number) e z es = absurd (accepted s 0 (Refused number) e z .0)
+-- ---- a script that is not refused begins with a held yard, so it does what it does in the world
 
-pub first-reached : (s air : List ℕ) (l : Line) (st : Sets) → judged s .number ≡ 0 → l ≡ lineAt s 0 → st ≡ setsOf l
-    → Reached (worldOf (rowsYard st zeroRows 0 0 (replicate 128 0)) air)
-first-reached s air l st good el es =
-    let r = fresh-reached s air st (lineAt s 0) refl (accepted-first s good) (es ∙ ap setsOf el) in
-    rw (rows-fresh st) r
+pub start-holds : (s air : List ℕ) → judged s .number ≡ 0 → Holds (scriptHere s air) (scriptStart s air)
+start-holds s air good =
+    let b = begins s (lineAt s 0) (setsOf (lineAt s 0)) good refl refl in
+    record {
+      knowns = nothingKnown;
+      yard = refl;
+      bytes = refl;
+      sound = rw (b .0) (state-sound .begins (setsOf (lineAt s 0) .present) (setsOf (lineAt s 0) .sources) (setsOf (lineAt s 0) .dests));
+    }
+
+-- what the state and the air hold then
+pub good-here : (s air state′ air′ : List ℕ) → judged s .number ≡ 0 → hereIn state′ air′ ≡ hereAfter (scriptHere s air) (stepLines s)
+    → (heldIn state′ ≡ whole (scriptWorld s air .yard) (scriptKnowns s air)) × (air′ ≡ scriptWorld s air .air)
+unfolding scriptWorld scriptKnowns
+good-here s air state′ air′ good e =
+    let h = lines-hold (scriptHere s air) (scriptStart s air) (stepLines s) (start-holds s air good) in
+    let is = e ∙ held-is _ _ h in
+    (ap (λ (x : Here). x .held) is, ap (λ (x : Here). x .air) is)
 
 -- the steps, then the posts
-pub good-ran : (s air exit output first : List ℕ) (l : Line) (st : Sets) (from fr be : ℕ) (R : Rows) (o p : Out)
-    → judged s .number ≡ 0 → l ≡ lineAt s 0 → st ≡ setsOf l → from ≡ nextOf s l
-    → worldOf (rowsYard st R fr be first) exit ≡ worldAfter (worldOf (rowsYard st zeroRows 0 0 (replicate 128 0)) air) (rest s from)
-    → o ≡ wrote (out output 0) (refusedLines (worldOf (rowsYard st zeroRows 0 0 (replicate 128 0)) air) 1 (rest s from))
-    → p ≡ wrote o (postsText (rowsYard st R fr be first) 8)
-    → (p ≡ wrote (out output 0) (scriptText s air)) × (exit ≡ scriptWorld s air .air)
-unfolding scriptText scriptWorld
-good-ran s air exit output first l st from fr be R o p good el es ef et eo ep =
-    let e : yardOf (lineAt s 0) ≡ rowsYard st zeroRows 0 0 (replicate 128 0)
-    = fresh-first s st (lineAt s 0) refl (accepted-first s good) (es ∙ ap setsOf el) ∙ sym (rows-fresh st)
-    in
-    let both = next (out output 0) _ _ eo ep in
-    let ey : rowsYard st R fr be first ≡ worldAfter (worldOf (rowsYard st zeroRows 0 0 (replicate 128 0)) air) (rest s from) .yard = ap (λ (w : World). w .yard) et in
-    rw (e, ← el, ← ef) (rw ey at both, ap (λ (w : World). w .air) et)
+yard-of : (state : List ℕ) (y : _) (ks : List (List ℕ)) → length state ≡ 4476 → heldIn state ≡ whole y ks → yardIn state ≡ y
+yard-of state y ks long e = let z : whole (yardIn state) (knownsIn state) ≡ whole y ks = sym (held-whole state long) ∙ e in cc
 
--- the printout and the air of a script that is not refused, and of one that is
+pub good-posts : (s air state′ air′ : List ℕ) (o p q : Out) → judged s .number ≡ 0 → length state′ ≡ 4476
+    → hereIn state′ air′ ≡ hereAfter (scriptHere s air) (stepLines s)
+    → p ≡ wrote o (refusedIn (scriptHere s air) 1 (stepLines s)) → q ≡ wrote p (postsText (yardIn state′) 8)
+    → (q ≡ wrote o (scriptText s air)) × (air′ ≡ scriptWorld s air .air)
+unfolding scriptText
+good-posts s air state′ air′ o p q good long e ep eq =
+    let h = good-here s air state′ air′ good e in
+    let same = refused-same (scriptHere s air) (scriptStart s air) 1 (stepLines s) (start-holds s air good) in
+    let y = yard-of state′ (scriptWorld s air .yard) (scriptKnowns s air) long (h .0) in
+    (next o _ _ (rw same at ep) (rw y at eq), h .1)
+
+-- ---- the printout and the air of a script that is not refused, and of one that is
+
 printout-good : (s air : List ℕ) → judged s .number ≡ 0 → printout s air ≡ scriptText s air
 unfolding printout
 printout-good s air h = rw (eq-eqb (judged s .number) 0 h)
@@ -161,10 +169,10 @@ unfolding bytesPrinted outputAfter airLeft
 other-length s air output h = rw (ne-eqb (length output) 131072 h) (refl, (refl, refl))
 
 -- otherwise the printout is printed
-whole : (s air output : List ℕ) (r : ℕ) (output' air' : List ℕ) → length output ≡ 131072
+printed : (s air output : List ℕ) (r : ℕ) (output' air' : List ℕ) → length output ≡ 131072
     → out output' r ≡ wrote (out output 0) (printout s air) → air' ≡ airAfter s air → Ended s air output r output' air'
 unfolding bytesPrinted outputAfter airLeft
-whole s air output r output' air' e eo ea =
+printed s air output r output' air' e eo ea =
     let all = eo ∙ printed-whole s air output e in
     rw (eq-eqb (length output) 131072 e) (ap (λ (o : Out). o .at) all, (ap (λ (o : Out). o .buffer) all, ea))
 
@@ -173,11 +181,37 @@ pub good-printed : (s air output : List ℕ) (v : Judged) (r : ℕ) (output' air
     → Ended s air output r output' air'
 good-printed s air output v r output' air' e ev h eo ea =
     let good : judged s .number ≡ 0 = rw (← ev) h in
-    whole s air output r output' air' e (rw (printout-good s air good) eo) (rw (air-good s air good) ea)
+    printed s air output r output' air' e (rw (printout-good s air good) eo) (rw (air-good s air good) ea)
 
 pub bad-printed : (s air output : List ℕ) (v : Judged) (r : ℕ) (output' : List ℕ) → length output ≡ 131072
     → v ≡ judged s → (v .number ≡ 0 → ⊥) → out output' r ≡ wrote (out output 0) (badText (v .line) (v .number))
     → Ended s air output r output' air
 bad-printed s air output v r output' e ev h eo =
     let bad : (judged s .number ≡ 0 → ⊥) = rw (← ev) h in
-    whole s air output r output' air e (rw (printout-bad s air bad, ← ev) eo) (rw (air-bad s air bad) refl)
+    printed s air output r output' air e (rw (printout-bad s air bad, ← ev) eo) (rw (air-bad s air bad) refl)
+
+-- ---- the state lent
+
+abbrev Told : List ℕ → List ℕ → List ℕ → ℕ → List ℕ → List ℕ → Type 0
+Told s air state r state' air' = (r ≡ stateTold s air state) × ((heldIn state' ≡ stateHeld s air state) × (air' ≡ stateAir s air state))
+
+pub other-state : (s air state : List ℕ) (r : ℕ) → (length state ≡ 4476 → ⊥) → r ≡ badState → Told s air state r state air
+unfolding stateTold stateHeld stateAir
+other-state s air state r h er = rw (ne-eqb (length state) 4476 h) (er, (refl, refl))
+
+pub bad-told : (s air state : List ℕ) (v : Judged) (r : ℕ) → length state ≡ 4476 → v ≡ judged s → (v .number ≡ 0 → ⊥) → r ≡ badScript (v .line) (v .number)
+    → Told s air state r state air
+unfolding stateTold stateHeld stateAir
+bad-told s air state v r e ev h er =
+    let bad : (judged s .number ≡ 0 → ⊥) = rw (← ev) h in
+    rw (eq-eqb (length state) 4476 e, ne-eqb (judged s .number) 0 bad) (rw ev at er, (refl, refl))
+
+pub good-told : (s air state state' air' : List ℕ) (v : Judged) (r : ℕ) → length state ≡ 4476 → v ≡ judged s → v .number ≡ 0
+    → hereIn state' air' ≡ hereAfter (scriptHere s air) (stepLines s) → r ≡ lastIn (scriptHere s air) noStep (stepLines s)
+    → Told s air state r state' air'
+unfolding stateTold stateHeld stateAir
+good-told s air state state' air' v r e ev z eh er =
+    let good : judged s .number ≡ 0 = rw (← ev) z in
+    let h = good-here s air state' air' good eh in
+    let last = last-same (scriptHere s air) (scriptStart s air) noStep (stepLines s) (start-holds s air good) in
+    rw (eq-eqb (length state) 4476 e, eq-eqb (judged s .number) 0 good) (er ∙ last, h)

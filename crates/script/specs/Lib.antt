@@ -1,3 +1,4 @@
 pub mod Run
-pub mod Lines
-pub mod Rows
+pub mod Told
+pub mod OnState
+pub mod State

@@ -1,23 +1,20 @@
-// Runs a script over a fresh yard and the air lent for it, and prints into the output lent for it. The contract cites
-// specs/Run.antt; meaning/specs/Script.antt says what a script prints.
-mod hearing;
+// Runs a script over a fresh yard and the air lent for it: printed into the output lent for it, or left in the state lent for it.
+// The contracts cite specs/Run.antt and specs/State.antt; meaning/specs/Script.antt says what a script prints.
 mod line_steps;
 mod posts;
-mod roll_hearings;
-mod roll_posts;
-mod roll_rows;
-mod row_steps;
 
 ghost use mathlib.Core.Path.{_≡_};
 ghost use Prim.Native.Nat.{_≤_};
 ghost use lib.ListN.{length};
-ghost use Rattle.yard.specs.Worlds.{worldOf};
 ghost use Rattle.text.specs.Writing.{out, wrote};
 ghost use Rattle.lines.specs.Lines.{judged};
-ghost use Rattle.meaning.specs.Script.{worldAfter, refusedLines, scriptWorld, scriptText};
+ghost use Rattle.yard.specs.States.{heldIn};
+ghost use Rattle.yard.specs.InState.{hereIn};
+ghost use Rattle.meaning.specs.Script.{stepLines, scriptWorld, scriptText};
 ghost use Rattle.script.specs.Run.{bytesPrinted, outputAfter, airLeft};
-ghost use Rattle.script.specs.Lines.{rest};
-ghost use Rattle.script.specs.Rows.{rows, rowsYard, Good, Reached};
+ghost use Rattle.script.specs.Told.{noStep};
+ghost use Rattle.script.specs.State.{stateTold, stateHeld, stateAir};
+ghost use Rattle.script.specs.OnState.{rest, hereAfter, refusedIn, lastIn, scriptHere};
 
 // The lanes that have a post, the sources and the destinations among them.
 pub(crate) struct Sets {
@@ -26,24 +23,10 @@ pub(crate) struct Sets {
     pub dests: u8,
 }
 
-// The number that a step of one lane is refused by, or 0, and how many frames are on the air.
-pub(crate) struct Counted {
-    pub number: u8,
-    pub frames: u16,
-}
-
-// The number that a line's step is refused by, or 0, how many frames are on the air, and how many beacons were sent.
-pub(crate) struct Stepped {
-    pub number: u8,
-    pub frames: u16,
-    pub beacons: u16,
-}
-
-// The position in the output after the lines run so far, how many frames are on the air, and how many beacons were sent.
+// The position in the output after the lines run so far, and the answer of the last one.
 struct Ran {
     pub to: usize,
-    pub frames: u16,
-    pub beacons: u16,
+    pub answer: u64,
 }
 
 // Bytes of the output: every printout fits.
@@ -61,116 +44,83 @@ pub extern "C" fn drift_run_script(script: &[u8], air: &mut [u8], output: &mut [
         return 0;
     }
     let verdict = reader::judge(script);
-    if verdict.number == 0 {
-        return run_good(script, air, output);
+    if verdict.number != 0 {
+        return printout::put_bad(output, 0, verdict.line, verdict.number);
     }
-    printout::put_bad(output, 0, verdict.line, verdict.number)
+    let mut state = [0u16; yard::LENGTH];
+    print_good(script, &mut state, air, output)
 }
 
-// Runs a script that is not refused: line 1 makes the yard, the lines after it are its steps, then the posts are printed.
-fn run_good(script: &[u8], air: &mut [u8], output: &mut [u8]) -> usize
-    requires { ⌜ judged (now script) .number ≡ 0 ⌝ }
+// Runs a script and leaves its yard in the state: the answer of its last line as one number. A state that has not 4,476
+// cells, or a script that is refused by 1 to 5, is told, and all stays as it was.
+#[no_mangle]
+pub extern "C" fn drift_script_state(script: &[u8], air: &mut [u8], state: &mut [u16]) -> u64
+    ensures { λ r. ⌜ r ≡ stateTold (now (script .entry)) (now (air .entry)) (now (state .entry)) ⌝ }
+    ensures held { λ _. ⌜ heldIn (now (state .exit)) ≡ stateHeld (now (script .entry)) (now (air .entry)) (now (state .entry)) ⌝ }
+    ensures bytes { λ _. ⌜ now (air .exit) ≡ stateAir (now (script .entry)) (now (air .entry)) (now (state .entry)) ⌝ }
+{
+    if state.len() != yard::LENGTH {
+        return told::told(12, 10, 0, 0, 0, 0);
+    }
+    let verdict = reader::judge(script);
+    if verdict.number != 0 {
+        return told::told(verdict.number, 9, 0, 0, 0, verdict.line);
+    }
+    let mut nowhere = [0u8; 1];
+    let ran = run_good(script, state, air, &mut nowhere[..0]);
+    ran.answer
+}
+
+// Runs a script that is not refused, then prints the posts.
+fn print_good(script: &[u8], state: &mut [u16], air: &mut [u8], output: &mut [u8]) -> usize
+    requires { do ⌜ (judged (now script) .number ≡ 0) × ((← ⟦state.len()⟧) ≡ 4476) ⌝ }
     ensures { λ r. ⌜ out (now (output .exit)) r ≡ wrote (out (now (output .entry)) 0) (scriptText (now (script .entry)) (now (air .entry))) ⌝ }
     ensures bytes { λ _. ⌜ now (air .exit) ≡ scriptWorld (now (script .entry)) (now (air .entry)) .air ⌝ }
 {
+    let ran = run_good(script, state, air, output);
+    posts::put_posts(output, ran.to, state)
+}
+
+// Runs a script that is not refused: line 1 makes the yard, the lines after it are its steps; each refused one is printed.
+fn run_good(script: &[u8], state: &mut [u16], air: &mut [u8], output: &mut [u8]) -> Ran
+    requires { do ⌜ (judged (now script) .number ≡ 0) × ((← ⟦state.len()⟧) ≡ 4476) ⌝ }
+    ensures { λ r. ⌜ hereIn (now (state .exit)) (now (air .exit)) ≡ hereAfter (scriptHere (now (script .entry)) (now (air .entry))) (stepLines (now (script .entry))) ⌝ }
+    ensures printed { λ r. ⌜ out (now (output .exit)) (r .to) ≡ wrote (out (now (output .entry)) 0) (refusedIn (scriptHere (now (script .entry)) (now (air .entry))) 1 (stepLines (now (script .entry)))) ⌝ }
+    ensures answer { λ r. ⌜ r .answer ≡ lastIn (scriptHere (now (script .entry)) (now (air .entry))) noStep (stepLines (now (script .entry))) ⌝ }
+{
     let first_line = reader::read_line(script, 0);
     let s = line_steps::sets_of(first_line);
+    yard::fresh(state, s.present, s.sources, s.dests);
     let from = lines::next_of(script, first_line);
-    let mut clocks = [0u16; 8];
-    let mut serials = [0u8; 8];
-    let mut loggeds = [0u8; 8];
-    let mut lasts = [[0u8; 8]; 8];
-    let mut tables = [[0u16; 136]; 8];
-    let mut stamps = [[0u16; 128]; 8];
-    let mut words = [[0u16; 128]; 8];
-    let mut logs = [[0u8; 128]; 8];
-    let mut knowns = [[0u8; 8]; 8];
-    let mut first = [0u16; 128];
-    let ran = run_lines(
-        script,
-        air,
-        output,
-        s,
-        &mut clocks,
-        &mut serials,
-        &mut loggeds,
-        &mut lasts,
-        &mut tables,
-        &mut stamps,
-        &mut words,
-        &mut logs,
-        &mut knowns,
-        &mut first,
-        from,
-    );
-    posts::put_posts(
-        output,
-        ran.to,
-        s,
-        &clocks,
-        &serials,
-        &loggeds,
-        &stamps,
-        &words,
-        &logs,
-    )
+    run_lines(script, state, air, output, from)
 }
 
 // The steps of the lines from a place on, line 2 being the first; each refused one is printed.
 fn run_lines(
     script: &[u8],
+    state: &mut [u16],
     air: &mut [u8],
     output: &mut [u8],
-    s: Sets,
-    clocks: &mut [u16; 8],
-    serials: &mut [u8; 8],
-    loggeds: &mut [u8; 8],
-    lasts: &mut [[u8; 8]; 8],
-    tables: &mut [[u16; 136]; 8],
-    stamps: &mut [[u16; 128]; 8],
-    words: &mut [[u16; 128]; 8],
-    logs: &mut [[u8; 128]; 8],
-    knowns: &mut [[u8; 8]; 8],
-    first: &mut [u16; 128],
     from: usize,
 ) -> Ran
-    requires { ⌜ (length (now script) ≤ 48000) × (1 ≤ from) × Good s (rows (now clocks) (now serials) (now loggeds) (now lasts) (now tables) (now stamps) (now words) (now logs) (now knowns)) × Reached (worldOf (rowsYard s (rows (now clocks) (now serials) (now loggeds) (now lasts) (now tables) (now stamps) (now words) (now logs) (now knowns)) 0 0 (now first)) (now air)) ⌝ }
-    ensures { λ r. ⌜ worldOf (rowsYard s (rows (now (clocks .exit)) (now (serials .exit)) (now (loggeds .exit)) (now (lasts .exit)) (now (tables .exit)) (now (stamps .exit)) (now (words .exit)) (now (logs .exit)) (now (knowns .exit))) (r .frames) (r .beacons) (now (first .exit))) (now (air .exit)) ≡ worldAfter (worldOf (rowsYard s (rows (now (clocks .entry)) (now (serials .entry)) (now (loggeds .entry)) (now (lasts .entry)) (now (tables .entry)) (now (stamps .entry)) (now (words .entry)) (now (logs .entry)) (now (knowns .entry))) 0 0 (now (first .entry))) (now (air .entry))) (rest (now (script .entry)) from) ⌝ }
-    ensures printed { λ r. ⌜ out (now (output .exit)) (r .to) ≡ wrote (out (now (output .entry)) 0) (refusedLines (worldOf (rowsYard s (rows (now (clocks .entry)) (now (serials .entry)) (now (loggeds .entry)) (now (lasts .entry)) (now (tables .entry)) (now (stamps .entry)) (now (words .entry)) (now (logs .entry)) (now (knowns .entry))) 0 0 (now (first .entry))) (now (air .entry))) 1 (rest (now (script .entry)) from)) ⌝ }
+    requires { ⌜ (length (now script) ≤ 48000) × (1 ≤ from) ⌝ }
+    ensures { λ r. ⌜ hereIn (now (state .exit)) (now (air .exit)) ≡ hereAfter (hereIn (now (state .entry)) (now (air .entry))) (rest (now (script .entry)) from) ⌝ }
+    ensures printed { λ r. ⌜ out (now (output .exit)) (r .to) ≡ wrote (out (now (output .entry)) 0) (refusedIn (hereIn (now (state .entry)) (now (air .entry))) 1 (rest (now (script .entry)) from)) ⌝ }
+    ensures answer { λ r. ⌜ r .answer ≡ lastIn (hereIn (now (state .entry)) (now (air .entry))) noStep (rest (now (script .entry)) from) ⌝ }
 {
-    let mut frames = 0u16;
-    let mut beacons = 0u16;
     let mut at = from;
     let mut line = 1u16;
     let mut to = 0usize;
+    let mut answer = told::told(0, 7, 0, 0, 0, 0);
     while at < script.len() {
         let l = reader::read_line(script, at);
-        let stepped = line_steps::run_step(
-            s,
-            clocks,
-            serials,
-            loggeds,
-            lasts,
-            tables,
-            stamps,
-            words,
-            logs,
-            knowns,
-            first,
-            air,
-            frames,
-            beacons,
-            l,
-        );
+        answer = line_steps::run_step(state, air, l);
         line = line + 1;
-        to = line_steps::put_refusal(output, to, line, stepped.number);
-        frames = stepped.frames;
-        beacons = stepped.beacons;
+        to = line_steps::put_refusal(output, to, line, (answer % 256) as u8);
         at = lines::next_of(script, l);
     }
     Ran {
         to: to,
-        frames: frames,
-        beacons: beacons,
+        answer: answer,
     }
 }

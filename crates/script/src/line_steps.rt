@@ -1,20 +1,19 @@
-// One line's step on the rows of the yard and the air: specs/Lines.antt.
+// One line's step on the state and the air: specs/OnState.antt.
 use crate::Sets;
-use crate::Stepped;
-use crate::roll_rows;
-use crate::row_steps;
 use lines::Line;
+use roll::RollAnswer;
 ghost use mathlib.Core.Path.{_≡_};
 ghost use mathlib.Core.Bool.{not};
+ghost use Prim.Native.Nat.{_%_};
 ghost use lib.Dec.{eqb};
-ghost use Rattle.yard.specs.Worlds.{worldOf};
 ghost use Rattle.text.specs.Decimal.{given};
 ghost use Rattle.text.specs.Writing.{out, wrote};
-ghost use Rattle.roll.specs.Runs.{run};
+ghost use Rattle.yard.specs.InState.{hereIn};
+ghost use Rattle.roll.specs.Answers.{rollNumber};
 ghost use Rattle.meaning.specs.Texts.{refusedText};
-ghost use Rattle.meaning.specs.Script.{stepOf, refusalOf};
-ghost use Rattle.script.specs.Lines.{setsOf};
-ghost use Rattle.script.specs.Rows.{rows, rowsYard, Good, Reached};
+ghost use Rattle.meaning.specs.Script.{stepOf};
+ghost use Rattle.script.specs.Told.{rollTold, noStep};
+ghost use Rattle.script.specs.OnState.{runIn, refusalIn, toldIn, setsOf};
 
 // The sets of lanes that line 1 asks for.
 pub(crate) fn sets_of(l: Line) -> Sets
@@ -53,27 +52,11 @@ fn sets(present: u8, sources: u8, dests: u8) -> Sets
     }
 }
 
-// The step that a line asks for.
-pub(crate) fn run_step(
-    s: Sets,
-    clocks: &mut [u16; 8],
-    serials: &mut [u8; 8],
-    loggeds: &mut [u8; 8],
-    lasts: &mut [[u8; 8]; 8],
-    tables: &mut [[u16; 136]; 8],
-    stamps: &mut [[u16; 128]; 8],
-    words: &mut [[u16; 128]; 8],
-    logs: &mut [[u8; 128]; 8],
-    knowns: &mut [[u8; 8]; 8],
-    first: &mut [u16; 128],
-    air: &mut [u8],
-    frames: u16,
-    beacons: u16,
-    l: Line,
-) -> Stepped
-    requires { ⌜ Good s (rows (now clocks) (now serials) (now loggeds) (now lasts) (now tables) (now stamps) (now words) (now logs) (now knowns)) × Reached (worldOf (rowsYard s (rows (now clocks) (now serials) (now loggeds) (now lasts) (now tables) (now stamps) (now words) (now logs) (now knowns)) frames beacons (now first)) (now air)) ⌝ }
-    ensures { λ r. ⌜ (r .number ≡ refusalOf (worldOf (rowsYard s (rows (now (clocks .entry)) (now (serials .entry)) (now (loggeds .entry)) (now (lasts .entry)) (now (tables .entry)) (now (stamps .entry)) (now (words .entry)) (now (logs .entry)) (now (knowns .entry))) frames beacons (now (first .entry))) (now (air .entry))) (stepOf l)) × (rowsYard s (rows (now (clocks .exit)) (now (serials .exit)) (now (loggeds .exit)) (now (lasts .exit)) (now (tables .exit)) (now (stamps .exit)) (now (words .exit)) (now (logs .exit)) (now (knowns .exit))) (r .frames) (r .beacons) (now (first .exit)) ≡ run (worldOf (rowsYard s (rows (now (clocks .entry)) (now (serials .entry)) (now (loggeds .entry)) (now (lasts .entry)) (now (tables .entry)) (now (stamps .entry)) (now (words .entry)) (now (logs .entry)) (now (knowns .entry))) frames beacons (now (first .entry))) (now (air .entry))) (stepOf l) .yard) × (now (air .exit) ≡ run (worldOf (rowsYard s (rows (now (clocks .entry)) (now (serials .entry)) (now (loggeds .entry)) (now (lasts .entry)) (now (tables .entry)) (now (stamps .entry)) (now (words .entry)) (now (logs .entry)) (now (knowns .entry))) frames beacons (now (first .entry))) (now (air .entry))) (stepOf l) .air) ⌝ }
-    ensures good { λ _. ⌜ Good s (rows (now (clocks .exit)) (now (serials .exit)) (now (loggeds .exit)) (now (lasts .exit)) (now (tables .exit)) (now (stamps .exit)) (now (words .exit)) (now (logs .exit)) (now (knowns .exit))) ⌝ }
+// The step that a line asks for: its answer as one number, whose lowest eight bits are the refusal's number.
+pub(crate) fn run_step(state: &mut [u16], air: &mut [u8], l: Line) -> u64
+    ensures { λ r. ⌜ r ≡ toldIn (hereIn (now (state .entry)) (now (air .entry))) (stepOf l) ⌝ }
+    ensures number { λ r. ⌜ r % 256 ≡ refusalIn (hereIn (now (state .entry)) (now (air .entry))) (stepOf l) ⌝ }
+    ensures here { λ _. ⌜ hereIn (now (state .exit)) (now (air .exit)) ≡ runIn (hereIn (now (state .entry)) (now (air .entry))) (stepOf l) ⌝ }
 {
     match l {
         Line::Yard {
@@ -81,100 +64,41 @@ pub(crate) fn run_step(
             sources: _,
             dests: _,
             next: _,
-        } => no_step(frames, beacons),
+        } => no_step(),
         Line::Order {
             lane,
             word,
             next: _,
-        } => {
-            let done = row_steps::order(
-                s,
-                clocks,
-                serials,
-                loggeds,
-                lasts,
-                tables,
-                stamps,
-                words,
-                logs,
-                knowns,
-                first,
-                air,
-                frames,
-                lane,
-                word,
-            );
-            Stepped {
-                number: done.number,
-                frames: done.frames,
-                beacons: beacons,
-            }
-        }
+        } => told::order_told(yard::order(state, air, lane as usize, word as usize)),
         Line::Hear {
             lane,
             frame,
             next: _,
-        } => {
-            let done = row_steps::hear(
-                s,
-                clocks,
-                serials,
-                loggeds,
-                lasts,
-                tables,
-                stamps,
-                words,
-                logs,
-                knowns,
-                air,
-                frames,
-                lane,
-                frame as usize,
-            );
-            Stepped {
-                number: done.number,
-                frames: done.frames,
-                beacons: beacons,
-            }
-        }
-        Line::Beacon { lane, next: _ } => row_steps::beacon(
-            s,
-            clocks,
-            serials,
-            loggeds,
-            tables,
+        } => told::hear_told(yard::hear(state, air, lane as usize, frame as usize)),
+        Line::Beacon { lane, next: _ } => told::beacon_told(yard::beacon(
+            state,
             air,
-            frames,
-            beacons,
-            lane,
-        ),
-        Line::Roll { next: _ } => roll_rows::call(
-            s,
-            clocks,
-            serials,
-            loggeds,
-            lasts,
-            tables,
-            stamps,
-            words,
-            logs,
-            knowns,
-            first,
-            air,
-            frames,
-            beacons,
-        ),
-        Line::Refused(_) => no_step(frames, beacons),
+            lane as usize,
+        )),
+        Line::Roll { next: _ } => roll_told(roll::call(state, air)),
+        Line::Refused(_) => no_step(),
     }
 }
 
-fn no_step(frames: u16, beacons: u16) -> Stepped
-    ensures { λ r. ⌜ r ≡ record { number = 0; frames = frames; beacons = beacons } ⌝ }
+fn no_step() -> u64
+    ensures { λ r. ⌜ r ≡ noStep ⌝ }
+    ensures number { λ r. ⌜ r % 256 ≡ 0 ⌝ }
 {
-    Stepped {
-        number: 0,
-        frames: frames,
-        beacons: beacons,
+    told::told(0, 7, 0, 0, 0, 0)
+}
+
+fn roll_told(answer: RollAnswer) -> u64
+    ensures { λ r. ⌜ r ≡ rollTold answer ⌝ }
+    ensures number { λ r. ⌜ r % 256 ≡ rollNumber answer ⌝ }
+{
+    match answer {
+        RollAnswer::Called(steps) => told::told(0, 8, 0, 0, 0, (steps % 65536) as u16),
+        RollAnswer::Refused(number) => told::told(number, 0, 0, 0, 0, 0),
     }
 }
 

@@ -7,7 +7,7 @@ use native.Mathlib.Omega.{arith}
 use lib.Count.{ones}
 use lib.ListN.{length}
 use borrow.Author.Tests.{lt-leb}
-use Rattle.air.specs.Air.{airWith}
+use Rattle.air.specs.Air.{framesWith}
 use Rattle.air.proofs.Stretches.{length-stays}
 use Rattle.post.specs.Newest.{beaconFrame}
 use Rattle.post.specs.Record.{freshPost}
@@ -39,7 +39,7 @@ passes air frames n whole l = rw (whole, lt-leb 1024 n l) refl
 
 broadcasts : (air : List ℕ) (frames n : ℕ) → length air ≡ 65536 → n < 1024
     → let f = beaconFrame (freshPost 0 0b111 0b011 0b101) in
-    step (sentSoFar air frames n) (one (beacon 0)) ≡ sentSoFar (airWith air frames f) (framesAfter air frames f) (n + 1)
+    step (sentSoFar air frames n) (one (beacon 0)) ≡ sentSoFar (framesWith air frames f) (framesAfter air frames f) (n + 1)
 unfolding freshYard step single yardBeacons yardBeaconsAir postBeacons postBeaconsAir beaconStep
 broadcasts air frames n whole l = rw (whole, lt-leb 1024 n l) refl
 
@@ -67,7 +67,7 @@ one-left air frames whole = rw whole (refl, refl)
 -- one beacon and n more
 onward : (n m k frames : ℕ) (air : List ℕ) → length air ≡ 65536 → m < 1024
     → let f = beaconFrame (freshPost 0 0b111 0b011 0b101) in
-    Counted (run (sentSoFar (airWith air frames f) (framesAfter air frames f) (m + 1)) (beaconsBy0 n)) k
+    Counted (run (sentSoFar (framesWith air frames f) (framesAfter air frames f) (m + 1)) (beaconsBy0 n)) k
     → Counted (run (sentSoFar air frames m) (one (beacon 0) ∷ beaconsBy0 n)) k
 unfolding run
 onward n m k frames air whole l later = record {
@@ -82,7 +82,7 @@ unfolding run beaconsBy0
 counted zero m k frames air whole e l = record { theAir = air; theFrames = frames; whole = whole; is = ap (sentSoFar air frames) (omega arith) }
 counted (suc n) m k frames air whole e l =
     let f = beaconFrame (freshPost 0 0b111 0b011 0b101) in
-    let later = counted n (m + 1) k (framesAfter air frames f) (airWith air frames f) (length-stays air frames f ∙ whole) (omega arith) l in
+    let later = counted n (m + 1) k (framesAfter air frames f) (framesWith air frames f) (length-stays air frames f ∙ whole) (omega arith) l in
     onward n m k frames air whole (omega arith) later
 
 after-beacons : (n : ℕ) → n ≤ 1024 → Counted (run three (beaconsBy0 n)) n

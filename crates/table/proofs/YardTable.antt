@@ -4,8 +4,8 @@ use lib.Count.{ones}
 use Rattle.frame.specs.Lanes.{anyBelow}
 use Rattle.frame.specs.Layout.{frameOf, bytesOf}
 use Rattle.frame.specs.Refusals.{badEntries, frameRefusal, readRefusal}
-use Rattle.air.specs.Air.{placeRefusal, placed, airWith}
-use Rattle.cells.specs.Tables.{stampUnder, withStamp}
+use Rattle.air.specs.Air.{placeRefusal, placed, framesWith}
+use Rattle.cells.specs.Tables.{entryPlace, stampUnder, withStamp, orderPlace}
 use Rattle.post.specs.Newest.{raised, raisedBelow, newer, newestBelow, newestEntries}
 use Rattle.post.specs.Taking.{kept, ticked, ownTaken, raisedPost, taken}
 use Rattle.deliver.specs.Delivery.{allBelow, isLogged, isDue, dueBelow, comesBefore, insertBy, sortBy, duePlaces, dueLog, delivered}
@@ -21,7 +21,7 @@ use Rattle.table.specs.Scripts.{answers}
 use Rattle.table.specs.YardCases.{YardBench}
 
 pub yardBench : YardBench
-unfolding anyBelow frameOf bytesOf badEntries frameRefusal readRefusal placeRefusal placed airWith stampUnder withStamp raised raisedBelow newer newestBelow newestEntries kept ticked ownTaken raisedPost taken allBelow isLogged isDue dueBelow comesBefore insertBy sortBy duePlaces dueLog delivered orderRefusal strangeEntries hearRefusal orderSent orderStep hearTaken hearOther hearStep beaconStep freshYard framesAfter postOrders postOrdersAir firstAfter yardOrders yardOrdersAir postHears postHearsAir yardHears yardHearsAir postBeacons postBeaconsAir yardBeacons yardBeaconsAir single singles laneHears lanesHears postsHear beaconsSent sourcesBelow beaconsHeard postsHearBeacons rollSteps rollRefusal rollCall rollCallAir answer step run orderSentBy sentBy sent inOrder ones answers
+unfolding anyBelow frameOf bytesOf badEntries frameRefusal readRefusal placeRefusal placed framesWith entryPlace stampUnder withStamp orderPlace raised raisedBelow newer newestBelow newestEntries kept ticked ownTaken raisedPost taken allBelow isLogged isDue dueBelow comesBefore insertBy sortBy duePlaces dueLog delivered orderRefusal strangeEntries hearRefusal orderSent orderStep hearTaken hearOther hearStep beaconStep freshYard framesAfter postOrders postOrdersAir firstAfter yardOrders yardOrdersAir postHears postHearsAir yardHears yardHearsAir postBeacons postBeaconsAir yardBeacons yardBeaconsAir single singles laneHears lanesHears postsHear beaconsSent sourcesBelow beaconsHeard postsHearBeacons rollSteps rollRefusal rollCall rollCallAir answer step run orderSentBy sentBy sent inOrder ones answers
 yardBench = record {
   P1-answers = refl;
   P1-printout = refl;

@@ -4,16 +4,18 @@ use Prim.Native.Nat.{ℕ}
 use mathlib.Core.Path.{_≡_}
 use mathlib.Core.List.{List, [], _∷_, _++_}
 use lib.ListN.{replicate, take, set}
-use Rattle.frame.specs.Layout.{noEntry}
+use Rattle.frame.specs.Layout.{noEntry, frameOf}
 use Rattle.frame.specs.Refusals.{readRefusal}
 use Rattle.frame.specs.ReadWrite.{writeRefusal, readOf, written}
 use Rattle.frame.specs.declared.Entry.{Entry}
 use Rattle.frame.specs.declared.Frame.{Frame}
+use Rattle.cells.specs.Tables.{stampUnder}
 use Rattle.post.specs.Record.{freshPost}
 use Rattle.steps.specs.Answers.{orderNumber, hearNumber}
+use Rattle.steps.specs.Steps.{hearStep}
 use Rattle.steps.specs.declared.HearAnswer.the-variants.{Taken, Again, Early}
 use Rattle.single.specs.Single.{orderSingly}
-use Rattle.table.specs.Posts.{fresh, blank, after, frameOfOrder, hearing, frameOfHearing, items, frame0, post1, frame1, frame2, post0, ordersSent, clockAt}
+use Rattle.table.specs.Posts.{fresh, blank, after, frameOfOrder, hearing, frameOfHearing, items, frame0, post1, frame1, frame2, post0, post2, serial17, ordersSent, clockAt}
 
 -- P2: "01 00 01 01 00 03 00 5A 01 00 04 01 00 03, then eighteen 00"
 abbrev pub frame4Bytes : List ℕ
@@ -44,6 +46,10 @@ pub record Bench : Type 0 where
   -- P9: "entry serial 0 stamp 1 passes; serial 1 stamp 0 gives 11"
   pub P9-passes : readRefusal (lane7 0 1) ≡ 0
   pub P9-refused : readRefusal (lane7 1 0) ≡ 11
+  -- 11: "An entry with serial over 16". To hear it would raise no other lane's entry: lane 1 "never spoke", and order 417 waits
+  pub serial-17-refused : readRefusal serial17 ≡ 11
+  pub serial-17-unheard : stampUnder (hearStep post2 (frameOf serial17) .post .table) 1 0 ≡ 0
+  pub serial-17-waits : items (hearStep post2 (frameOf serial17) .post) ≡ []
   -- "31 and 33 bytes: 6"
   pub bytes-31 : readRefusal (take 31 frame4Bytes) ≡ 6
   pub bytes-33 : readRefusal (frame4Bytes ++ (0 ∷ [])) ≡ 6

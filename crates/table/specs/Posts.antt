@@ -1,7 +1,7 @@
 -- The bench's stories, played by posts run singly that hand each other their broadcasts. Assumes nothing.
 use Prim.Native.Nat.{ℕ, zero, suc, _/_}
 use mathlib.Core.List.{List, [], _∷_, map}
-use lib.ListN.{getD, take, replicate}
+use lib.ListN.{getD, take, set, replicate}
 use Rattle.post.specs.declared.Post.{Post}
 use Rattle.post.specs.Record.{freshPost, withClock}
 use Rattle.single.specs.declared.Heard.{Heard}
@@ -47,6 +47,13 @@ frame2 = frameOfOrder post1 90
 
 abbrev pub post0 : Post
 post0 = after (fresh 0) 417
+
+-- a post that waits for lane 1, and frame 0 with serial 17 in its entry of lane 0
+abbrev pub post2 : Post
+post2 = hearing (fresh 2) frame0 .post
+
+abbrev pub serial17 : List ℕ
+serial17 = set frame0 8 17
 
 -- ---- the limits
 

@@ -1,5 +1,0 @@
-pub mod FinishWays
-pub mod OrderWays
-pub mod HearWays
-pub mod SameSteps
-pub mod Roles

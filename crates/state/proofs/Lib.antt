@@ -1,4 +1,0 @@
-pub mod Laws
-pub mod LineLaws
-pub mod StepWays
-pub mod StateWays

@@ -8,7 +8,7 @@
  *   drift_frame_...      libframe.a       made by `rt staticlib frame`
  *   drift_post_...       liblent_post.a   made by `rt staticlib lent_post`
  *   drift_run_script     libscript.a      made by `rt staticlib script`
- *   drift_script_state   libstate.a       made by `rt staticlib state`
+ *   drift_script_state   the same
  *
  * libframe.a calls no other library, the others only memcpy and memset, which
  * compiled C may call anyway. The headers are for C11 and C++17, and later ones.
@@ -16,6 +16,7 @@
 #ifndef DRIFT_H
 #define DRIFT_H
 
+#include "drift_answer.h"
 #include "drift_frame.h"
 #include "drift_post.h"
 #include "drift_script.h"

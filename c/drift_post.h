@@ -1,11 +1,13 @@
 /*
  * DRIFT for firmware and hosts: one post, run singly. The caller owns its
- * record, lends it to every step and finds it brought up to date. Link with
- * target/staticlib/liblent_post.a. Included by drift.h.
+ * record, lends it to every step and finds it brought up to date. Answers and
+ * refusals are in drift_answer.h. Link with target/staticlib/liblent_post.a.
+ * Included by drift.h.
  */
 #ifndef DRIFT_POST_H
 #define DRIFT_POST_H
 
+#include "drift_answer.h"
 #include "drift_frame.h"
 
 #ifdef __cplusplus
@@ -34,8 +36,7 @@ extern "C" {
 /*
  * The record of a post. drift_post_fresh makes one; the caller may read, copy,
  * store and compare it byte by byte, and leaves changing it to the steps.
- * Numbers are in the machine's own byte order, unlike those of a frame and of
- * the records that drift_script_state writes.
+ * Numbers are in the machine's own byte order, unlike those of a frame.
  */
 struct drift_post {
     /* The post's lane, 0 to 7. */
@@ -85,60 +86,6 @@ DRIFT_POST_DEMAND(offsetof(struct drift_post, words) == 544);
 DRIFT_POST_DEMAND(offsetof(struct drift_post, log) == 800);
 #undef DRIFT_POST_DEMAND
 
-/* Refusals of a post run singly, beside 6 to 11 of enum drift_frame_answer. */
-enum drift_post_refusal {
-    /* A record with a number outside its range, a role at a lane without a
-     * post, an own serial other than the last taken from its own lane, an
-     * order missing up to the last serial taken or kept beyond it, or a log
-     * that repeats an order or has one not taken. */
-    DRIFT_BAD_RECORD = 12,
-    /* Post not in the yard: its lane is not in the set of posts. */
-    DRIFT_NOT_IN_YARD = 21,
-    /* Order at a post that is no source. */
-    DRIFT_NO_SOURCE = 22,
-    /* That lane has sent 16. */
-    DRIFT_LANE_HAS_SENT_16 = 23,
-    /* Clock would pass 65,535. */
-    DRIFT_CLOCK_WOULD_PASS = 24,
-    /* The post's own broadcast. */
-    DRIFT_OWN_BROADCAST = 26,
-    /* Sender not in the yard, or the order or an entry belongs to a lane that
-     * is no source. */
-    DRIFT_STRANGE_FRAME = 28,
-    /* An order to be taken whose stamp is not above that lane's last taken
-     * one. */
-    DRIFT_STAMP_NOT_ABOVE = 29,
-    /* An order or an entry of the hearing post's lane has a serial above its
-     * own, or such an entry has a stamp above its clock. */
-    DRIFT_ABOVE_OWN = 30
-};
-
-/* What an order or a hearing came to. */
-enum drift_post_code {
-    DRIFT_REFUSED = 0,
-    DRIFT_ORDER_SENT = 1,
-    /* The order heard was the next of its lane: it is kept and passed on. */
-    DRIFT_TAKEN = 2,
-    /* The order heard was taken before. */
-    DRIFT_AGAIN = 3,
-    /* An earlier order of that lane is still missing: this one is dropped. */
-    DRIFT_EARLY = 4,
-    DRIFT_BEACON_HEARD = 5
-};
-
-/*
- * The parts of the answer of drift_post_order and drift_post_hear: the
- * refusal's number or 0, a code of enum drift_post_code, how many orders joined
- * the log, and of an order that was sent its serial and its stamp. Each part
- * that an answer has not is 0; with a refusal that is all but its number. The
- * orders that joined are the last ones of the log.
- */
-#define DRIFT_ANSWER_REFUSAL(answer) ((uint8_t)(answer))
-#define DRIFT_ANSWER_CODE(answer) ((uint8_t)((uint64_t)(answer) >> 8))
-#define DRIFT_ANSWER_DELIVERED(answer) ((uint8_t)((uint64_t)(answer) >> 16))
-#define DRIFT_ANSWER_SERIAL(answer) ((uint8_t)((uint64_t)(answer) >> 24))
-#define DRIFT_ANSWER_STAMP(answer) ((uint16_t)((uint64_t)(answer) >> 32))
-
 /*
  * Makes a fresh post: clock 0, serial 0, nothing taken, nothing logged.
  *
@@ -151,9 +98,9 @@ enum drift_post_code {
  *
  * For all four functions: post must point to an initialised record, readable
  * and writable (drift_post_beacon only reads it), aligned as struct drift_post
- * is. Its content may be anything: 12 refuses the records named above, and no
- * steps from a fresh post lead to one. No pointer is kept, and what the
- * pointers point to does not overlap.
+ * is. Its content may be anything: 12 refuses the records named at
+ * DRIFT_BAD_RECORD, and no steps from a fresh post lead to one. No pointer is
+ * kept, and what the pointers point to does not overlap.
  *
  * They have no state, need no initialisation and no heap, and may be called
  * from any thread or interrupt handler that has the record and the buffer to

@@ -1,13 +1,14 @@
 /*
- * DRIFT for a host: a yard, run by a script. Link with
- * target/staticlib/libscript.a, and libstate.a for the state behind a script.
- * Included by drift.h.
+ * DRIFT for a host: a yard, run by a script, its printout and the state behind
+ * it. Answers and refusals are in drift_answer.h. Link with
+ * target/staticlib/libscript.a. Included by drift.h.
  */
 #ifndef DRIFT_SCRIPT_H
 #define DRIFT_SCRIPT_H
 
-#include <stddef.h>
-#include <stdint.h>
+#include "drift_answer.h"
+/* For DRIFT_LANES, and the places of serials and orders, DRIFT_POST_... */
+#include "drift_post.h"
 
 #ifdef __cplusplus
 extern "C" {
@@ -47,40 +48,103 @@ size_t drift_run_script(const uint8_t *script, size_t script_length,
                         uint8_t *air, size_t air_length,
                         uint8_t *output, size_t output_length);
 
-/* Number of bytes of a state. */
-#define DRIFT_STATE_LENGTH 7692
+/*
+ * A state is the yard that a script leaves: a row of DRIFT_STATE_CELLS cells of
+ * 16 bits, each a number in the machine's own byte order. A set of lanes has bit
+ * i for lane i, and an order stands at its place, DRIFT_POST_PLACE.
+ *
+ *   cell          of a state
+ *   0             the set of posts
+ *   1             the set of sources
+ *   2             how many frames are on the air
+ *   3             how many beacons were sent
+ *   4 .. 131      for each order the number of its first frame; 0 where there
+ *                 is no order
+ *   132 .. 4475   a row of DRIFT_ROW_CELLS cells for each of the lanes 0 to 7
+ *
+ *   cell          of a lane's row
+ *   0             the lane
+ *   1             the set of sources
+ *   2             the set of destinations
+ *   3             the clock
+ *   4             the own serial: how many orders the post has sent
+ *   5             the length of the log
+ *   6 .. 13       for each lane the last serial taken from it
+ *   14 .. 21      for each lane the serial up to which its orders are known to
+ *                 be in the log: at a destination how many of them are there,
+ *                 elsewhere 0
+ *   22 .. 157     the newest-stamp table, at DRIFT_POST_TABLE_PLACE
+ *   158 .. 285    the stamp of each order taken; else 0
+ *   286 .. 413    its word; else 0
+ *   414 .. 541    the log: the places of the orders delivered, in the order of
+ *                 delivery, then 0
+ *   542           the set of posts
+ *
+ * Cells 14 to 21 are a note of the runner's own; all others of a row are the
+ * post's record, with the meaning that they have in struct drift_post. A lane
+ * without a post has a fresh row with the yard's sets.
+ *
+ * So post 2's clock is state[DRIFT_STATE_ROW(2) + DRIFT_ROW_CLOCK].
+ */
+#define DRIFT_STATE_CELLS 4476
+#define DRIFT_ROW_CELLS 543
+
+/* Single cells of a state; the first frame of the order at a place; where the
+ * row of a lane begins. */
+enum drift_state_cell {
+    DRIFT_STATE_POSTS = 0,
+    DRIFT_STATE_SOURCES = 1,
+    DRIFT_STATE_FRAMES = 2,
+    DRIFT_STATE_BEACONS = 3
+};
+#define DRIFT_STATE_FIRST_FRAME(place) (4 + (place))
+#define DRIFT_STATE_ROW(lane) (132 + DRIFT_ROW_CELLS * (lane))
+
+/* Single cells of a row, and those that it has for each lane, for each place of
+ * the table, for each place of an order and for each order of the log, from 0. */
+enum drift_row_cell {
+    DRIFT_ROW_LANE = 0,
+    DRIFT_ROW_SOURCES = 1,
+    DRIFT_ROW_DESTS = 2,
+    DRIFT_ROW_CLOCK = 3,
+    DRIFT_ROW_SERIAL = 4,
+    DRIFT_ROW_LOGGED = 5,
+    DRIFT_ROW_POSTS = 542
+};
+#define DRIFT_ROW_LAST(lane) (6 + (lane))
+#define DRIFT_ROW_KNOWN(lane) (14 + (lane))
+#define DRIFT_ROW_TABLE(table_place) (22 + (table_place))
+#define DRIFT_ROW_STAMP(place) (158 + (place))
+#define DRIFT_ROW_WORD(place) (286 + (place))
+#define DRIFT_ROW_LOG(number) (414 + (number))
 
 /*
- * Runs a script as drift_run_script does, and writes the state that it leaves
- * behind its printout: each post's record, the yard's own numbers, and the
- * answer of the last line.
+ * Runs a script as drift_run_script does, prints nothing and leaves the yard in
+ * the lent state.
  *
- * Returns DRIFT_STATE_LENGTH and fills the state; the air holds the broadcast
- * frames, as after drift_run_script. Returns 0 if the script is refused (1 to
- * 5) or state_length is not DRIFT_STATE_LENGTH; then air and state keep their
- * bytes.
+ * Returns the answer of the last line, taken apart by DRIFT_ANSWER_...; of a
+ * step that was refused the code is DRIFT_REFUSED, of a script that is its yard
+ * line alone DRIFT_NO_STEP. Every cell of the state is written, whatever it held,
+ * and the air holds the broadcast frames, as after drift_run_script.
  *
- * A number of two bytes has the high byte first. At 928 x lane, for lanes 0 to
- * 7, the record: lane, posts, sources, dests, clock (2), own serial, last taken
- * (8), table (136 x 2), stamps (128 x 2), words (128 x 2), log (128), length of
- * the log. At 7424 the number of frames (2), at 7426 of beacons (2), at 7428
- * the number of each order's first frame (128 x 2). At 7684 the answer of the
- * last line: its code (0 refused, 1 order sent, 2 taken, 3 again, 4 early,
- * 5 beacon heard, 6 beacon sent, 7 no step yet, 8 roll call ran), the refusal's
- * number, the count delivered, the order's serial, its stamp (2), the number of
- * single steps of the roll call (2); 0 for each that the answer has not.
+ * Nothing runs, and state and air keep their contents, with two codes alone:
+ * DRIFT_STATE_REFUSED, number 12, if state_cells is not DRIFT_STATE_CELLS, which
+ * is judged first; DRIFT_SCRIPT_REFUSED, with the number of the refusal, 1 to 5,
+ * and the line, if the script is refused: what `(bad LINE NUMBER)` prints.
  *
- * Within a record the table's stamp at (lane, serial) is number
- * DRIFT_POST_TABLE_PLACE of drift_post.h; stamps, words and first frames have
- * an order at DRIFT_POST_PLACE, and the log holds these places. A lane without a
- * post has a fresh record with the yard's sets.
+ * If air_length is not DRIFT_AIR_LENGTH each step is refused by 13, the air keeps
+ * its bytes, and the state is that of the fresh yard.
  *
- * It uses some 60 KB of the caller's stack: have 128 KB free. For the pointers
- * and the rest it is as drift_run_script.
+ * script must point to script_length readable bytes, air to air_length readable
+ * and writable ones, and state to state_cells readable and writable cells,
+ * aligned as uint16_t is; the three do not overlap. With length 0 a pointer may
+ * be NULL. No pointer is kept.
+ *
+ * For the rest it is as drift_run_script.
  */
-size_t drift_script_state(const uint8_t *script, size_t script_length,
-                          uint8_t *air, size_t air_length,
-                          uint8_t *state, size_t state_length);
+uint64_t drift_script_state(const uint8_t *script, size_t script_length,
+                            uint8_t *air, size_t air_length,
+                            uint16_t *state, size_t state_cells);
 
 #ifdef __cplusplus
 }

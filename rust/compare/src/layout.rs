@@ -1,62 +1,90 @@
-//! Where the numbers of a record stand in a state; wide ones are big-endian.
+//! Where the numbers of a post stand in its row of a state, one in each cell.
 
-use drift_reference::frame::{Serial, Stamp};
-use drift_reference::post::Post;
+use crate::report::lane_and_serial;
+use drift_reference::frame::{Serial, Stamp, LANES};
+use drift_reference::post::{Post, ORDERS, TABLE_LENGTH};
 use std::array;
 
-// Places in a record, counted from its start.
-pub const CLOCK: usize = 4;
-pub const SERIAL: usize = CLOCK + 2;
-pub const LAST: usize = SERIAL + 1;
-pub const TABLE: usize = LAST + 8;
-pub const STAMPS: usize = TABLE + 2 * 136;
-pub const WORDS: usize = STAMPS + 2 * 128;
-pub const LOG: usize = WORDS + 2 * 128;
-pub const LOGGED: usize = LOG + 128;
-/// Number of bytes of a record.
-pub const RECORD_LENGTH: usize = LOGGED + 1;
+// Cells of a row, counted from its start.
+pub const LANE: usize = 0;
+pub const SOURCES: usize = 1;
+pub const DESTS: usize = 2;
+pub const CLOCK: usize = 3;
+pub const SERIAL: usize = 4;
+pub const LOGGED: usize = 5;
+pub const LAST: usize = 6;
+pub const KNOWN: usize = LAST + LANES;
+pub const TABLE: usize = KNOWN + LANES;
+pub const STAMPS: usize = TABLE + TABLE_LENGTH;
+pub const WORDS: usize = STAMPS + ORDERS;
+pub const LOG: usize = WORDS + ORDERS;
+pub const POSTS: usize = LOG + ORDERS;
+/// Number of cells of a row.
+pub const ROW_CELLS: usize = POSTS + 1;
 
-const _: () = assert!(RECORD_LENGTH == 928);
+const _: () = assert!(ROW_CELLS == 543);
 
-/// The two bytes at a place as a number.
-pub fn pair(bytes: &[u8], at: usize) -> u16 {
-    u16::from_be_bytes([bytes[at], bytes[at + 1]])
-}
-
-pub fn read_record(record: &[u8]) -> Post {
-    let byte = |start: usize| move |index: usize| record[start + index];
-    let wide = |start: usize| move |index: usize| pair(record, start + 2 * index);
+/// The post of a row. A number that is too large for its range is the largest of
+/// its kind, and so too large still.
+pub fn read_row(row: &[u16]) -> Post {
+    let narrow = |at: usize| u8::try_from(row[at]).unwrap_or(u8::MAX);
+    let narrow_from = |start: usize| move |index: usize| narrow(start + index);
+    let wide_from = |start: usize| move |index: usize| row[start + index];
     Post {
-        lane: record[0],
-        posts: record[1],
-        sources: record[2],
-        dests: record[3],
-        clock: Stamp(pair(record, CLOCK)),
-        serial: Serial(record[SERIAL]),
-        last: array::from_fn(byte(LAST)),
-        table: array::from_fn(wide(TABLE)),
-        stamps: array::from_fn(wide(STAMPS)),
-        words: array::from_fn(wide(WORDS)),
-        log: array::from_fn(byte(LOG)),
-        logged: record[LOGGED],
+        lane: narrow(LANE),
+        posts: narrow(POSTS),
+        sources: narrow(SOURCES),
+        dests: narrow(DESTS),
+        clock: Stamp(row[CLOCK]),
+        serial: Serial(narrow(SERIAL)),
+        last: array::from_fn(narrow_from(LAST)),
+        table: array::from_fn(wide_from(TABLE)),
+        stamps: array::from_fn(wide_from(STAMPS)),
+        words: array::from_fn(wide_from(WORDS)),
+        log: array::from_fn(narrow_from(LOG)),
+        logged: narrow(LOGGED),
     }
 }
 
-pub fn write_record(post: &Post, record: &mut [u8]) {
-    record[..CLOCK].copy_from_slice(&[post.lane, post.posts, post.sources, post.dests]);
-    write_wide(&[post.clock.0], &mut record[CLOCK..SERIAL]);
-    record[SERIAL] = post.serial.0;
-    record[LAST..TABLE].copy_from_slice(&post.last);
-    write_wide(&post.table, &mut record[TABLE..STAMPS]);
-    write_wide(&post.stamps, &mut record[STAMPS..WORDS]);
-    write_wide(&post.words, &mut record[WORDS..LOG]);
-    record[LOG..LOGGED].copy_from_slice(&post.log);
-    record[LOGGED] = post.logged;
+/// Writes the row of a post, and what it is known to have of each lane in its log.
+pub fn write_row(post: &Post, known: [u8; LANES], row: &mut [u16]) {
+    row[LANE] = post.lane.into();
+    row[SOURCES] = post.sources.into();
+    row[DESTS] = post.dests.into();
+    row[CLOCK] = post.clock.0;
+    row[SERIAL] = post.serial.0.into();
+    row[LOGGED] = post.logged.into();
+    row[LAST..KNOWN].copy_from_slice(&post.last.map(u16::from));
+    row[KNOWN..TABLE].copy_from_slice(&known.map(u16::from));
+    row[TABLE..STAMPS].copy_from_slice(&post.table);
+    row[STAMPS..WORDS].copy_from_slice(&post.stamps);
+    row[WORDS..LOG].copy_from_slice(&post.words);
+    row[LOG..POSTS].copy_from_slice(&post.log.map(u16::from));
+    row[POSTS] = post.posts.into();
 }
 
-/// Numbers of two bytes each, one after the other.
-pub fn write_wide(numbers: &[u16], bytes: &mut [u8]) {
-    for (place, number) in bytes.chunks_exact_mut(2).zip(numbers) {
-        place.copy_from_slice(&number.to_be_bytes());
+/// The cells of a record: those of a row of which nothing is known.
+pub fn cells_of(post: &Post) -> [u16; ROW_CELLS] {
+    let mut row = [0; ROW_CELLS];
+    write_row(post, [0; LANES], &mut row);
+    row
+}
+
+/// Name of the number in a cell of a row.
+pub fn row_field(at: usize) -> String {
+    match at {
+        LANE => "lane".into(),
+        SOURCES => "sources".into(),
+        DESTS => "dests".into(),
+        CLOCK => "clock".into(),
+        SERIAL => "own serial".into(),
+        LOGGED => "length of the log".into(),
+        LAST..KNOWN => format!("last taken of lane {}", at - LAST),
+        KNOWN..TABLE => format!("known of lane {}", at - KNOWN),
+        TABLE..STAMPS => format!("table at {}", lane_and_serial(at - TABLE, 17, 0)),
+        STAMPS..WORDS => format!("stamp of {}", lane_and_serial(at - STAMPS, 16, 1)),
+        WORDS..LOG => format!("word of {}", lane_and_serial(at - WORDS, 16, 1)),
+        LOG..POSTS => format!("log at {}", at - LOG),
+        _ => "posts".into(),
     }
 }

@@ -26,8 +26,9 @@ pub trait Library {
     /// Runs a script; gives the number of bytes printed.
     fn run_script(&self, script: &mut [u8], air: &mut [u8], output: &mut [u8]) -> usize;
 
-    /// Runs a script and writes the state behind it; gives that one's length, or 0.
-    fn script_state(&self, script: &mut [u8], air: &mut [u8], state: &mut [u8]) -> usize;
+    /// Runs a script and writes the state behind it; gives what the last line
+    /// answered, or that script or state are refused, as one number.
+    fn script_state(&self, script: &mut [u8], air: &mut [u8], state: &mut [u16]) -> u64;
 
     /// Makes a fresh post by lane, posts, sources and dests: 0, or the refusal.
     fn post_fresh(&self, post: &mut Record, asked: [u8; 4]) -> u8;
@@ -88,7 +89,7 @@ impl Library for Proved {
         }
     }
 
-    fn script_state(&self, script: &mut [u8], air: &mut [u8], state: &mut [u8]) -> usize {
+    fn script_state(&self, script: &mut [u8], air: &mut [u8], state: &mut [u16]) -> u64 {
         unsafe {
             raw::drift_script_state(
                 script.as_mut_ptr(),

@@ -4,6 +4,7 @@
 
 #![deny(unsafe_code)]
 
+mod answer;
 mod arguments;
 mod frames;
 mod layout;

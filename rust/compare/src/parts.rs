@@ -150,7 +150,7 @@ mod tests {
         let wrong = Patched {
             frame_check: Box::new(|_| 0),
             run_script: Box::new(|_, _, _| 1),
-            script_state: Box::new(|_, _, _| 0),
+            script_state: Box::new(|_, _, _| 0x0700),
             post_beacon: Box::new(|_, _| 0),
             ..Patched::default()
         };

@@ -9,6 +9,7 @@ type Check = dyn Fn(&mut [u8]) -> u8;
 type Read = dyn Fn(&mut [u8], &mut [u16]) -> u8;
 type Write = dyn Fn(&mut [u16], &mut [u8]) -> u8;
 type Run = dyn Fn(&mut [u8], &mut [u8], &mut [u8]) -> usize;
+type State = dyn Fn(&mut [u8], &mut [u8], &mut [u16]) -> u64;
 type Fresh = dyn Fn(&mut Record, [u8; 4]) -> u8;
 type Order = dyn Fn(&mut Record, u16, &mut [u8]) -> u64;
 type Hear = dyn Fn(&mut Record, &mut [u8], &mut [u8]) -> u64;
@@ -19,7 +20,7 @@ pub struct Patched {
     pub frame_read: Box<Read>,
     pub frame_write: Box<Write>,
     pub run_script: Box<Run>,
-    pub script_state: Box<Run>,
+    pub script_state: Box<State>,
     pub post_fresh: Box<Fresh>,
     pub post_order: Box<Order>,
     pub post_hear: Box<Hear>,
@@ -59,7 +60,7 @@ impl Library for Patched {
         (self.run_script)(script, air, output)
     }
 
-    fn script_state(&self, script: &mut [u8], air: &mut [u8], state: &mut [u8]) -> usize {
+    fn script_state(&self, script: &mut [u8], air: &mut [u8], state: &mut [u16]) -> u64 {
         (self.script_state)(script, air, state)
     }
 

@@ -1,13 +1,11 @@
 //! A difference between two sides in readable words.
 
-use crate::layout::{
-    pair, write_record, CLOCK, LAST, LOG, LOGGED, RECORD_LENGTH, SERIAL, STAMPS, TABLE, WORDS,
-};
+use crate::answer;
+use crate::layout::{cells_of, row_field};
 use crate::lent_record::post_of;
 use crate::posts::Difference;
 use crate::request::{Lent, Ran, Request, Step};
 use crate::stretch::Stretch;
-use crate::tally::ANSWERS;
 use drift_reference::post::Post;
 use std::fmt::{Display, Write};
 
@@ -50,17 +48,10 @@ pub fn describe(difference: &Difference) -> String {
 
 /// What an answer tells.
 fn told(step: Step, answer: u64) -> String {
-    let [refusal, code, count, serial, ..] = answer.to_le_bytes();
-    if matches!(step, Step::Fresh | Step::Beacon) {
-        return format!("refusal {refusal}");
+    match step {
+        Step::Fresh | Step::Beacon => format!("refusal {answer}"),
+        Step::Order | Step::Hear => answer::told(answer),
     }
-    // The last two answers have no code.
-    let name = ANSWERS[..6].get(usize::from(code));
-    format!(
-        "{}, refusal {refusal}, count {count}, serial {serial}, stamp {}",
-        name.unwrap_or(&"no answer at all"),
-        (answer >> 32) as u16
-    )
 }
 
 /// What is handed in beside the record.
@@ -129,27 +120,19 @@ pub fn hex(bytes: &[u8]) -> String {
     })
 }
 
-/// Names of the fields that differ, with the second implementation's value first.
-/// `field` gives name and number of bytes of the field that starts at a byte.
-pub fn differing_fields(
-    reference: &[u8],
-    response: &[u8],
-    field: impl Fn(usize) -> (String, usize),
+/// Names of the numbers that differ, with the second implementation's value first.
+/// `name` gives that of the number at a place.
+pub fn differing_fields<Number: Copy + Into<u16>>(
+    reference: &[Number],
+    library: &[Number],
+    name: impl Fn(usize) -> String,
 ) -> Vec<Differing> {
-    let mut fields = Vec::new();
-    let mut at = 0;
-    while at < reference.len() {
-        let (name, width) = field(at);
-        let value = |bytes: &[u8]| match width {
-            1 => u16::from(bytes[at]),
-            _ => pair(bytes, at),
-        };
-        if value(reference) != value(response) {
-            fields.push((name, value(reference), value(response)));
-        }
-        at += width;
-    }
-    fields
+    let values = reference.iter().zip(library).enumerate();
+    let values = values.map(|(at, (&right, &wrong))| (at, right.into(), wrong.into()));
+    let differing = values.filter(|(_, right, wrong)| right != wrong);
+    differing
+        .map(|(at, right, wrong)| (name(at), right, wrong))
+        .collect()
 }
 
 /// All fields that differ: of the answer, of the record, of what stands beside it,
@@ -157,33 +140,28 @@ pub fn differing_fields(
 fn all_differing(reference: &Ran, library: &Ran) -> Vec<Differing> {
     let [answer, other_answer] = [reference, library].map(|ran| ran.answer.to_le_bytes());
     let mut fields = differing_fields(&answer, &other_answer, answer_field);
-    let [record, other_record] = [reference, library].map(record_bytes);
-    fields.extend(differing_fields(&record, &other_record, record_field));
+    let [record, other_record] =
+        [reference, library].map(|ran| cells_of(&post_of(&ran.record.record)));
+    fields.extend(differing_fields(&record, &other_record, row_field));
     let [beside, other_beside] = [reference, library].map(|ran| ran.record.margins());
-    let name = |at: usize| (format!("byte {at} beside the record"), 1);
+    let name = |at: usize| format!("byte {at} beside the record");
     fields.extend(differing_fields(&beside, &other_beside, name));
     fields.extend(differing_lent("frame", &reference.frame, &library.frame));
     fields.extend(differing_lent("buffer", &reference.buffer, &library.buffer));
     fields
 }
 
-fn record_bytes(ran: &Ran) -> [u8; RECORD_LENGTH] {
-    let mut bytes = [0; RECORD_LENGTH];
-    write_record(&post_of(&ran.record.record), &mut bytes);
-    bytes
-}
-
 fn differing_lent(what: &str, reference: &Stretch<u8>, library: &Stretch<u8>) -> Vec<Differing> {
-    let of = |at: usize| (format!("byte {at} of the {what}"), 1);
+    let of = |at: usize| format!("byte {at} of the {what}");
     let mut fields = differing_fields(reference.numbers(), library.numbers(), of);
     let [margins, others] = [reference, library].map(|lent| lent.margins().collect::<Vec<u8>>());
-    let beside = |at: usize| (format!("byte {at} beside the {what}"), 1);
+    let beside = |at: usize| format!("byte {at} beside the {what}");
     fields.extend(differing_fields(&margins, &others, beside));
     fields
 }
 
-/// Name and number of bytes of the field that starts at a byte of an answer.
-fn answer_field(at: usize) -> (String, usize) {
+/// Name of a byte of an answer.
+fn answer_field(at: usize) -> String {
     let name = match at {
         0 => "refusal",
         1 => "code",
@@ -191,35 +169,13 @@ fn answer_field(at: usize) -> (String, usize) {
         3 => "serial of the order",
         4 => "low byte of the order's stamp",
         5 => "high byte of the order's stamp",
-        _ => return (format!("byte {at} of the answer, which is always 0"), 1),
+        _ => return format!("byte {at} of the answer, which is always 0"),
     };
-    (name.into(), 1)
+    name.into()
 }
 
-/// Name and number of bytes of the field that starts at a byte of a record.
-pub fn record_field(at: usize) -> (String, usize) {
-    match at {
-        0..CLOCK => (["lane", "posts", "sources", "dests"][at].into(), 1),
-        CLOCK..SERIAL => ("clock".into(), 2),
-        SERIAL..LAST => ("own serial".into(), 1),
-        LAST..TABLE => (format!("last taken of lane {}", at - LAST), 1),
-        TABLE..STAMPS => (
-            format!("table at {}", lane_and_serial(at - TABLE, 17, 0)),
-            2,
-        ),
-        STAMPS..WORDS => (
-            format!("stamp of {}", lane_and_serial(at - STAMPS, 16, 1)),
-            2,
-        ),
-        WORDS..LOG => (format!("word of {}", lane_and_serial(at - WORDS, 16, 1)), 2),
-        LOG..LOGGED => (format!("log at {}", at - LOG), 1),
-        _ => ("length of the log".into(), 1),
-    }
-}
-
-/// Lane and serial of the two bytes at an offset, with so many serials in a lane.
-pub fn lane_and_serial(offset: usize, serials: usize, first: usize) -> String {
-    let place = offset / 2;
+/// Lane and serial of a place, with so many serials in a lane.
+pub fn lane_and_serial(place: usize, serials: usize, first: usize) -> String {
     let (lane, serial) = (place / serials, place % serials + first);
     format!("lane {lane}, serial {serial}")
 }

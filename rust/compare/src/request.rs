@@ -1,5 +1,6 @@
 //! A request to run one step of a single post, and how a library runs it.
 
+use crate::answer::{Answer, Answered};
 use crate::lent_record::{record_of, LentRecord};
 use crate::library::Library;
 use crate::stretch::Stretch;
@@ -15,29 +16,6 @@ pub enum Step {
     Hear,
     Beacon,
 }
-
-/// What a step answers; the first six stand for the codes 0 to 5.
-#[derive(Clone, Copy, Debug, PartialEq, Eq)]
-pub enum Answer {
-    Refused,
-    OrderSent,
-    Taken,
-    Again,
-    Early,
-    BeaconHeard,
-    BeaconSent,
-    FreshMade,
-}
-
-/// The answers that have a code, by code.
-const CODES: [Answer; 6] = [
-    Answer::Refused,
-    Answer::OrderSent,
-    Answer::Taken,
-    Answer::Again,
-    Answer::Early,
-    Answer::BeaconHeard,
-];
 
 /// An area of which the first bytes are lent; a longer stretch repeats it.
 #[derive(Clone, Debug, PartialEq, Eq)]
@@ -70,16 +48,6 @@ pub struct Ran {
     pub buffer: Stretch<u8>,
 }
 
-/// The numbers of an answer; 0 where there is none.
-#[derive(Clone, Copy, Debug, PartialEq, Eq)]
-pub struct Outcome {
-    pub answer: Answer,
-    pub refusal: u8,
-    pub count: u8,
-    pub serial: u8,
-    pub stamp: u16,
-}
-
 impl Step {
     /// The name of the function that runs the step.
     pub fn function(self) -> &'static str {
@@ -88,49 +56,6 @@ impl Step {
             Step::Order => "drift_post_order",
             Step::Hear => "drift_post_hear",
             Step::Beacon => "drift_post_beacon",
-        }
-    }
-}
-
-impl Outcome {
-    pub fn refused(number: u8) -> Outcome {
-        Outcome {
-            refusal: number,
-            ..Outcome::of(Answer::Refused, 0)
-        }
-    }
-
-    pub fn of(answer: Answer, count: u8) -> Outcome {
-        Outcome {
-            answer,
-            refusal: 0,
-            count,
-            serial: 0,
-            stamp: 0,
-        }
-    }
-
-    /// As an order or a hearing answers it.
-    pub fn number(self) -> u64 {
-        let bytes = [self.refusal, self.answer as u8, self.count, self.serial];
-        u64::from(u32::from_le_bytes(bytes)) | u64::from(self.stamp) << 32
-    }
-
-    /// What the right answer of a step tells.
-    pub fn read(step: Step, answer: u64) -> Outcome {
-        let [refusal, code, count, serial, ..] = answer.to_le_bytes();
-        let answered = match step {
-            _ if refusal != 0 => Answer::Refused,
-            Step::Fresh => Answer::FreshMade,
-            Step::Beacon => Answer::BeaconSent,
-            Step::Order | Step::Hear => CODES[usize::from(code)],
-        };
-        Outcome {
-            answer: answered,
-            refusal,
-            count,
-            serial,
-            stamp: (answer >> 32) as u16,
         }
     }
 }
@@ -162,7 +87,13 @@ impl Request {
     }
 
     /// What the right answer tells.
-    pub fn outcome(&self, right: &Ran) -> Outcome {
-        Outcome::read(self.step, right.answer)
+    pub fn outcome(&self, right: &Ran) -> Answered {
+        let answered = Answered::read(right.answer).expect("a right answer");
+        let answer = match self.step {
+            Step::Fresh if answered.refusal == 0 => Answer::FreshMade,
+            Step::Beacon if answered.refusal == 0 => Answer::BeaconSent,
+            _ => answered.answer,
+        };
+        Answered { answer, ..answered }
     }
 }

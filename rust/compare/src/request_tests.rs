@@ -167,7 +167,7 @@ const CHANGES: [(Change, &str); 17] = [
     (|ran| ran.frame.lent()[31] ^= 1, "byte 31 of the frame"),
     (
         |ran| *ran.frame.margins_mut().last().unwrap() = 0,
-        "byte 79 beside the frame",
+        "byte 81 beside the frame",
     ),
     (|ran| ran.buffer.lent()[0] ^= 1, "byte 0 of the buffer"),
     (

@@ -1,11 +1,11 @@
 //! The second implementation in the shape of the static library.
 
+use crate::answer::Answered;
 use crate::lent_record::{post_of, record_of, Record};
 use crate::library::{Library, FIELDS};
-use crate::request::{Answer, Outcome};
-use crate::state::{write_state, STATE_LENGTH};
+use crate::state::{write_state, STATE_CELLS};
 use drift_reference::frame::{check, Frame, NOT_32_BYTES};
-use drift_reference::post::{HearAnswer, OrderAnswer, Post};
+use drift_reference::post::Post;
 use drift_reference::script;
 
 /// The second implementation.
@@ -40,17 +40,18 @@ impl Library for Second {
         script::run(script, air, output).unwrap_or(0)
     }
 
-    fn script_state(&self, script: &mut [u8], air: &mut [u8], state: &mut [u8]) -> usize {
-        if state.len() != STATE_LENGTH {
-            return 0;
+    fn script_state(&self, script: &mut [u8], air: &mut [u8], state: &mut [u16]) -> u64 {
+        if state.len() != STATE_CELLS {
+            return Answered::bad_state().number();
         }
-        match script::run_to_yard(script, air) {
-            Err(_) => 0,
+        let answered = match script::run_to_yard(script, air) {
+            Err(bad) => Answered::bad_script(bad),
             Ok((yard, answer)) => {
-                write_state(&yard, answer, state);
-                STATE_LENGTH
+                write_state(&yard, state);
+                Answered::last(answer)
             }
-        }
+        };
+        answered.number()
     }
 
     fn post_fresh(&self, post: &mut Record, [lane, posts, sources, dests]: [u8; 4]) -> u8 {
@@ -67,35 +68,22 @@ impl Library for Second {
         let mut own = post_of(post);
         let answer = own.order(word, buffer);
         *post = record_of(&own);
-        answer.map_or_else(Outcome::refused, sent).number()
+        answer
+            .map_or_else(Answered::refused, Answered::sent)
+            .number()
     }
 
     fn post_hear(&self, post: &mut Record, frame: &mut [u8], buffer: &mut [u8]) -> u64 {
         let mut own = post_of(post);
         let answer = own.hear(frame, buffer);
         *post = record_of(&own);
-        answer.map_or_else(Outcome::refused, heard).number()
+        answer
+            .map_or_else(Answered::refused, Answered::heard)
+            .number()
     }
 
     fn post_beacon(&self, post: &mut Record, buffer: &mut [u8]) -> u8 {
         post_of(post).beacon(buffer).err().unwrap_or(0)
-    }
-}
-
-fn sent(answer: OrderAnswer) -> Outcome {
-    Outcome {
-        serial: answer.serial.0,
-        stamp: answer.stamp.0,
-        ..Outcome::of(Answer::OrderSent, answer.count)
-    }
-}
-
-fn heard(answer: HearAnswer) -> Outcome {
-    match answer {
-        HearAnswer::Taken(count) => Outcome::of(Answer::Taken, count),
-        HearAnswer::Again(count) => Outcome::of(Answer::Again, count),
-        HearAnswer::Early(count) => Outcome::of(Answer::Early, count),
-        HearAnswer::Beacon(count) => Outcome::of(Answer::BeaconHeard, count),
     }
 }
 

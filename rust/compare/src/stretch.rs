@@ -2,8 +2,9 @@
 
 use std::fmt::Debug;
 
-/// How many numbers stand before and after the lent ones.
-const MARGIN: usize = 40;
+/// How many numbers stand before and after the lent ones: an odd count, so that
+/// the lent ones stand at no better address than is promised of them.
+const MARGIN: usize = 41;
 
 /// The lent part of a row of numbers. Two rows are equal if the margins, which
 /// nobody may write, are equal too.
@@ -65,5 +66,14 @@ mod tests {
             assert_eq!(changed.numbers() == whole.numbers(), in_margin);
         }
         assert_eq!(Stretch::<u8>::new([], 0).lent(), [0u8; 0]);
+    }
+
+    /// A host may lend bytes at any address, and cells at any even one.
+    #[test]
+    fn numbers_are_lent_at_no_better_address_than_is_promised() {
+        let bytes = Stretch::new([0u8; 65_536], 0);
+        assert_eq!(bytes.numbers().as_ptr().addr() % 2, 1);
+        let cells = Stretch::new([0u16; 4_476], 0);
+        assert_eq!(cells.numbers().as_ptr().addr() % 4, 2);
     }
 }

@@ -1,7 +1,8 @@
 //! How often each step, answer and refusal came, and each clause of refusal 12.
 
+use crate::answer::{Answer, Answered, ANSWERS};
 use crate::posts::clauses::{broken_alone, judged_record, CLAUSES, ENDS};
-use crate::request::{Answer, Outcome, Request, Step};
+use crate::request::{Request, Step};
 use drift_reference::post::BAD_RECORD;
 use std::fmt;
 
@@ -28,18 +29,6 @@ const POSSIBLE: [(Step, &str, &[Answer], &[u8]); 4] = [
     (Step::Beacon, "beacon", &[Answer::BeaconSent], &[6, 12, 21]),
 ];
 
-/// Names of the answers.
-pub const ANSWERS: [&str; 8] = [
-    "refused",
-    "order sent",
-    "taken",
-    "again",
-    "early",
-    "beacon heard",
-    "beacon sent",
-    "fresh made",
-];
-
 /// One more than the highest refusal number.
 const REFUSALS: usize = 31;
 
@@ -63,7 +52,7 @@ pub struct Tally {
 
 impl Tally {
     /// Counts a request with the right outcome of it.
-    pub fn add(&mut self, request: &Request, outcome: Outcome) {
+    pub fn add(&mut self, request: &Request, outcome: Answered) {
         let step = request.step as usize;
         self.answers[step][outcome.answer as usize] += 1;
         self.refusals[step][usize::from(outcome.refusal)] += 1;
@@ -105,10 +94,10 @@ impl Tally {
     /// The rows of the table: a name, and a count for each step that can have one.
     fn rows(&self) -> Vec<(String, [Option<u64>; 4])> {
         let mut rows = Vec::new();
-        for (answer, name) in ANSWERS.iter().enumerate().skip(1) {
+        for (answer, name) in ANSWERS.into_iter().skip(1) {
             let counts = POSSIBLE.map(|(step, _, answers, _)| {
-                let is_possible = answers.iter().any(|&possible| possible as usize == answer);
-                is_possible.then_some(self.answers[step as usize][answer])
+                let is_possible = answers.contains(&answer);
+                is_possible.then_some(self.answers[step as usize][answer as usize])
             });
             rows.push((name.to_string(), counts));
         }

@@ -1,11 +1,12 @@
 //! Tests that the check of demand 3 passes right libraries and notices wrong ones.
 
-use crate::layout::{LOG, LOGGED, RECORD_LENGTH, STAMPS, WORDS};
+use crate::answer::{Answer, Answered};
+use crate::layout::{cells_of, CLOCK, LOG, LOGGED, ROW_CELLS, STAMPS, WORDS};
 use crate::library::Library;
 use crate::lists::{check, smallest, Fault, Tally};
 use crate::patched::Patched;
 use crate::second::Second;
-use crate::state::{Answer, State, ANSWER};
+use crate::state::{State, BEACONS, FIRST, FRAMES, ROWS};
 
 const SEED: u64 = 1;
 const COUNT: u64 = 60;
@@ -14,13 +15,35 @@ fn checked(library: &dyn Library) -> Result<Tally, Box<Fault>> {
     check(library, SEED, 0, COUNT, |_| {})
 }
 
-/// A library whose states are changed; the script tells what was run.
-fn misstates(change: impl Fn(&[u8], &mut [u8]) + 'static) -> Patched {
+/// What a script left: the state and the last line's answer.
+struct Left<'a> {
+    state: &'a mut [u16],
+    answered: Answered,
+}
+
+impl Left<'_> {
+    /// The row of a lane.
+    fn row(&mut self, lane: usize) -> &mut [u16] {
+        &mut self.state[ROWS + ROW_CELLS * lane..][..ROW_CELLS]
+    }
+
+    /// Changes it if the last line gave this answer.
+    fn change_if(&mut self, answer: Answer, change: fn(&mut Left)) {
+        if self.answered.answer == answer {
+            change(self);
+        }
+    }
+}
+
+/// A library that changes what its scripts left.
+fn misstates(change: impl Fn(&mut Left) + 'static) -> Patched {
     Patched {
         script_state: Box::new(move |script, air, state| {
-            let length = Second.script_state(script, air, state);
-            change(script, state);
-            length
+            let answer = Second.script_state(script, air, state);
+            let answered = Answered::read(answer).expect("a right answer");
+            let mut left = Left { state, answered };
+            change(&mut left);
+            left.answered.number()
         }),
         ..Patched::default()
     }
@@ -40,71 +63,69 @@ fn the_second_implementation_passes_and_everything_comes() {
     assert!(!Tally::default().never_came().is_empty());
 }
 
-/// The record of a lane.
-fn record(state: &mut [u8], lane: usize) -> &mut [u8] {
-    &mut state[RECORD_LENGTH * lane..][..RECORD_LENGTH]
-}
-
-/// What is wrong, words of the fault, and the change of a state.
-type Wrong = (&'static str, &'static str, fn(&mut [u8]));
+/// What is wrong, words of the fault, and the change of what is left.
+type Wrong = (&'static str, &'static str, fn(&mut Left));
 
 fn assert_all_noticed(wrong: &[Wrong]) {
     for &(name, words, change) in wrong {
-        assert_noticed(name, words, misstates(move |_, state| change(state)));
+        assert_noticed(name, words, misstates(change));
     }
 }
 
-const WRONG_LOGS: [Wrong; 8] = [
-    ("all logs have two orders swapped", "begin", |state| {
+const WRONG_LOGS: [Wrong; 9] = [
+    ("all logs have two orders swapped", "begin", |left| {
         for lane in 0..8 {
-            let record = record(state, lane);
-            if record[LOGGED] >= 2 {
-                record.swap(LOG, LOG + 1);
+            let row = left.row(lane);
+            if row[LOGGED] >= 2 {
+                row.swap(LOG, LOG + 1);
             }
         }
     }),
-    ("one log of three is swapped", "begin", |state| {
-        let record = record(state, 5);
-        if record[LOGGED] == 3 {
-            record.swap(LOG + 1, LOG + 2);
+    ("one log of three is swapped", "begin", |left| {
+        let row = left.row(5);
+        if row[LOGGED] == 3 {
+            row.swap(LOG + 1, LOG + 2);
         }
     }),
-    ("an order is logged twice", "begin", |state| {
-        let record = record(state, 2);
-        let length = usize::from(record[LOGGED]);
+    ("an order is logged twice", "begin", |left| {
+        let row = left.row(2);
+        let length = usize::from(row[LOGGED]);
         if length >= 1 {
-            record[LOG + length] = record[LOG + length - 1];
-            record[LOGGED] += 1;
+            row[LOG + length] = row[LOG + length - 1];
+            row[LOGGED] += 1;
         }
     }),
-    ("the first order is left out", "begin", |state| {
-        let record = record(state, 1);
-        let length = usize::from(record[LOGGED]);
+    ("the first order is left out", "begin", |left| {
+        let row = left.row(1);
+        let length = usize::from(row[LOGGED]);
         if length >= 2 {
-            record.copy_within(LOG + 1..LOG + length, LOG);
-            record[LOGGED] -= 1;
+            row.copy_within(LOG + 1..LOG + length, LOG);
+            row[LOGGED] -= 1;
         }
     }),
-    ("the stamp of a logged order", "begin", |state| {
-        change_first_logged(state, STAMPS);
+    ("the stamp of a logged order", "begin", |left| {
+        change_first_logged(left, STAMPS);
     }),
-    ("the word of a logged order", "begin", |state| {
-        change_first_logged(state, WORDS);
+    ("the word of a logged order", "begin", |left| {
+        change_first_logged(left, WORDS);
     }),
-    ("a log of over 128 orders", "logs 129 orders", |state| {
-        record(state, 0)[LOGGED] = 129;
+    ("a log of over 128 orders", "logs 129 orders", |left| {
+        left.row(0)[LOGGED] = 129;
     }),
-    ("a log with place 128", "logs place", |state| {
-        record(state, 0)[LOG] |= 0x80;
+    ("a log of 256 orders", "logs 255 orders", |left| {
+        left.row(0)[LOGGED] |= 0x100;
+    }),
+    ("a log with place 128", "logs place", |left| {
+        left.row(0)[LOG] |= 0x80;
     }),
 ];
 
 /// Changes a number of post 3's first logged order.
-fn change_first_logged(state: &mut [u8], start: usize) {
-    let record = record(state, 3);
-    if record[LOGGED] > 0 {
-        let place = usize::from(record[LOG]);
-        record[start + 2 * place + 1] ^= 0x40;
+fn change_first_logged(left: &mut Left, start: usize) {
+    let row = left.row(3);
+    if row[LOGGED] > 0 {
+        let place = usize::from(row[LOG]);
+        row[start + place] ^= 0x40;
     }
 }
 
@@ -116,9 +137,9 @@ fn wrong_logs_are_noticed() {
 #[test]
 fn logs_that_are_no_longer_right_later_are_noticed() {
     // Each log begins the list of orders sent, but not that after one more order.
-    let hasty = misstates(|_, state| {
+    let hasty = misstates(|left| {
         for lane in 0..8 {
-            let mut post = State(state).post(lane);
+            let mut post = State(left.state).post(lane);
             let taken = (0..128u8).filter(|place| place % 16 < post.last[usize::from(place / 16)]);
             let mut log: Vec<u8> = taken.collect();
             log.sort_by_key(|&place| (post.stamps[usize::from(place)], place));
@@ -126,7 +147,7 @@ fn logs_that_are_no_longer_right_later_are_noticed() {
             if lane == 7 && post.dests >> lane & 1 == 1 {
                 post.log[..log.len()].copy_from_slice(&log);
                 post.logged = log.len() as u8;
-                crate::layout::write_record(&post, record(state, lane));
+                left.row(lane).copy_from_slice(&cells_of(&post));
             }
         }
     });
@@ -141,64 +162,52 @@ const WRONG_ROLL_CALLS: [Wrong; 6] = [
     (
         "one order is missing",
         "after a roll call post 4 logs",
-        |state| {
-            let record = record(state, 4);
-            if record[LOGGED] >= 3 {
-                record[LOGGED] -= 1;
+        |left| {
+            let row = left.row(4);
+            if row[LOGGED] >= 3 {
+                row[LOGGED] -= 1;
             }
         },
     ),
-    ("nothing is ever logged", "after a roll call", |state| {
+    ("nothing is ever logged", "after a roll call", |left| {
         for lane in 0..8 {
-            record(state, lane)[LOGGED] = 0;
+            left.row(lane)[LOGGED] = 0;
         }
     }),
-    ("the answer is one off", "a roll call answers", |state| {
-        change_if(state, Answer::RollCallRan, |state| state[ANSWER + 7] ^= 1);
+    ("the answer is one off", "a roll call answers", |left| {
+        left.change_if(Answer::RollCallRan, |left| left.answered.steps_or_line ^= 1);
     }),
     (
         "a frame too many is counted",
         "new frames, beacons",
-        |state| {
-            change_if(state, Answer::RollCallRan, |state| state[7_425] += 1);
+        |left| {
+            left.change_if(Answer::RollCallRan, |left| left.state[FRAMES] += 1);
         },
     ),
     (
         "the single steps leave another yard",
         "its single steps",
-        |state| {
-            change_if(state, Answer::RollCallRan, |state| state[7_429] = 1);
+        |left| {
+            left.change_if(Answer::RollCallRan, |left| left.state[FIRST] = 1);
         },
     ),
-    (
-        "it runs and is refused",
-        "a refused step changed",
-        |state| {
-            change_if(state, Answer::RollCallRan, |state| {
-                state[ANSWER..].copy_from_slice(&[0, 27, 0, 0, 0, 0, 0, 0]);
-            });
-        },
-    ),
+    ("it runs and is refused", "a refused step changed", |left| {
+        left.change_if(Answer::RollCallRan, |left| {
+            left.answered = Answered::refused(27);
+        });
+    }),
 ];
-
-/// Changes a state whose last line gave this answer.
-fn change_if(state: &mut [u8], answer: Answer, change: fn(&mut [u8])) {
-    let answered = State(state).answered();
-    if answered.is_some_and(|answered| answered.answer == answer) {
-        change(state);
-    }
-}
 
 #[test]
 fn wrong_roll_calls_are_noticed() {
     assert_all_noticed(&WRONG_ROLL_CALLS);
     let air = Patched {
         script_state: Box::new(|script, air, state| {
-            let length = Second.script_state(script, air, state);
+            let answer = Second.script_state(script, air, state);
             if script.ends_with(b"(roll)\n") {
                 air[65_000] ^= 1;
             }
-            length
+            answer
         }),
         ..Patched::default()
     };
@@ -206,40 +215,41 @@ fn wrong_roll_calls_are_noticed() {
 }
 
 const WRONG_ANSWERS: [Wrong; 8] = [
-    ("every order has serial 1", "is sent after", |state| {
-        change_if(state, Answer::OrderSent, |state| state[ANSWER + 3] = 1);
+    ("every order has serial 1", "is sent after", |left| {
+        left.change_if(Answer::OrderSent, |left| left.answered.serial = 1);
     }),
-    ("every order has stamp 1", "", |state| {
-        change_if(state, Answer::OrderSent, |state| state[ANSWER + 5] = 1);
+    ("every order has stamp 1", "", |left| {
+        left.change_if(Answer::OrderSent, |left| left.answered.stamp = 1);
     }),
-    ("taken is answered again", "new frames, beacons", |state| {
-        change_if(state, Answer::Taken, |state| state[ANSWER] = 3);
+    ("taken is answered again", "new frames, beacons", |left| {
+        left.change_if(Answer::Taken, |left| left.answered.answer = Answer::Again);
     }),
-    ("a beacon answers taken", "(beacon", |state| {
-        change_if(state, Answer::BeaconSent, |state| state[ANSWER] = 2);
+    ("a beacon answers taken", "(beacon", |left| {
+        left.change_if(Answer::BeaconSent, |left| {
+            left.answered.answer = Answer::Taken;
+        });
     }),
-    (
-        "there is no such answer",
-        "no answer of its number",
-        |state| {
-            change_if(state, Answer::Early, |state| state[ANSWER] = 9);
-        },
-    ),
-    ("a refusal has no number", "answers", |state| {
-        change_if(state, Answer::Refused, |state| state[ANSWER + 1] = 0);
+    // A fresh post that was made has no code.
+    ("there is no such answer", "no answer of its code", |left| {
+        left.change_if(Answer::Early, |left| {
+            left.answered.answer = Answer::FreshMade;
+        });
+    }),
+    ("a refusal has no number", "answers", |left| {
+        left.change_if(Answer::Refused, |left| left.answered.refusal = 0);
     }),
     (
         "a refused step changes a clock",
         "a refused step changed",
-        |state| {
-            change_if(state, Answer::Refused, |state| record(state, 6)[5] ^= 1);
+        |left| {
+            left.change_if(Answer::Refused, |left| left.row(6)[CLOCK] ^= 1);
         },
     ),
     (
         "a beacon is sent before the first step",
         "not fresh",
-        |state| {
-            change_if(state, Answer::YardMade, |state| state[7_427] = 1);
+        |left| {
+            left.change_if(Answer::NoStep, |left| left.state[BEACONS] = 1);
         },
     ),
 ];
@@ -247,21 +257,30 @@ const WRONG_ANSWERS: [Wrong; 8] = [
 #[test]
 fn wrong_answers_are_noticed() {
     assert_all_noticed(&WRONG_ANSWERS);
-    let length = Patched {
+    let refused = misstates(|left| {
+        left.change_if(Answer::Taken, |left| left.answered = Answered::bad_state());
+    });
+    let words = "a good script answers: state refused, refusal 12";
+    assert_noticed("no state is given", words, refused);
+    let unwritten = Patched {
         script_state: Box::new(|script, air, state| {
-            Second.script_state(script, air, state).saturating_sub(1)
+            let last = state[ROWS - 1];
+            let answer = Second.script_state(script, air, state);
+            state[ROWS - 1] = last;
+            answer
         }),
         ..Patched::default()
     };
-    assert_noticed("no state is given", "a state of 7691 bytes", length);
+    let words = "a refused step changed";
+    assert_noticed("a cell is not written", words, unwritten);
 }
 
 #[test]
 fn a_fault_shows_the_smallest_list() {
-    let missing = misstates(|_, state| {
+    let missing = misstates(|left| {
         for lane in 0..8 {
-            let record = record(state, lane);
-            record[LOGGED] -= u8::from(record[LOGGED] == 2);
+            let row = left.row(lane);
+            row[LOGGED] -= u16::from(row[LOGGED] == 2);
         }
     });
     let fault = checked(&missing).expect_err("a wrong log");

@@ -1,11 +1,16 @@
 //! Tests that the comparison of scripts passes right libraries and notices wrong
-//! ones: wrong printouts, airs and states.
+//! ones: wrong printouts, airs, states and answers.
 
+mod answers;
+mod states;
+
+use crate::layout::{LOGGED, ROW_CELLS};
 use crate::library::Library;
 use crate::patched::Patched;
 use crate::scripts::{compare, smallest, Found, Tally};
 use crate::second::Second;
-use crate::state::{State, ANSWER, STATE_LENGTH};
+use crate::state::{State, ROWS};
+use states::misstates;
 
 const SEED: u64 = 1;
 const COUNT: u64 = 300;
@@ -39,7 +44,9 @@ fn what_never_came_is_told() {
     let never = Tally::default().never_came();
     for name in [
         "a script that is bad by 5",
-        "last line: early with a delivery",
+        "answer: early with a delivery",
+        "answer: state refused",
+        "a script refused at a line over 255",
         "last line: roll: refused by 27",
         "printed: hear: refused by 26",
         "2,048 frames",
@@ -184,73 +191,6 @@ fn wrong_airs_are_noticed() {
     assert_noticed("the script is changed", "script", script);
 }
 
-/// A library that gives the right state and then changes it.
-fn misstates(change: impl Fn(&mut [u8]) + 'static) -> Patched {
-    Patched {
-        script_state: Box::new(move |script, air, state| {
-            let length = Second.script_state(script, air, state);
-            if length > 0 {
-                change(state);
-            }
-            length
-        }),
-        ..Patched::default()
-    }
-}
-
-#[test]
-fn wrong_states_are_noticed() {
-    // Each byte in turn would take long: these stand for all parts of a state.
-    for at in (0..STATE_LENGTH).step_by(61).chain(ANSWER..STATE_LENGTH) {
-        let name = format!("byte {at} is another");
-        assert_noticed(&name, "state", misstates(move |state| state[at] ^= 1));
-    }
-    let last = misstates(|state| {
-        if State(state).post(7).serial.0 == 16 {
-            state[ANSWER - 1] ^= 1;
-        }
-    });
-    assert_noticed("the first frame of the last order", "state", last);
-    let frames = misstates(|state| {
-        if State(state).frames() == 2_048 {
-            state[7_425] = 1;
-        }
-    });
-    assert_noticed("2,048 frames are counted as others", "state", frames);
-}
-
-#[test]
-fn wrong_uses_of_a_lent_state_are_noticed() {
-    let state_of_bad = Patched {
-        script_state: Box::new(|script, air, state| {
-            match Second.script_state(script, air, state) {
-                0 if state.len() == STATE_LENGTH => {
-                    state.fill(0);
-                    0
-                }
-                length => length,
-            }
-        }),
-        ..Patched::default()
-    };
-    assert_noticed("a bad script empties the state", "state", state_of_bad);
-    let any_length = Patched {
-        script_state: Box::new(|script, air, state| {
-            let length = state.len().min(STATE_LENGTH);
-            Second.script_state(script, air, &mut state[..length])
-        }),
-        ..Patched::default()
-    };
-    assert_noticed("a longer state is written", "state", any_length);
-    let air_of_state = Patched {
-        script_state: Box::new(|script, air, state| {
-            Second.script_state(script, &mut air.to_vec(), state)
-        }),
-        ..Patched::default()
-    };
-    assert_noticed("the state leaves the air as it was", "air", air_of_state);
-}
-
 #[test]
 fn a_difference_shows_the_smallest_script() {
     // The library is wrong where a post logs two orders of lane 1.
@@ -259,7 +199,7 @@ fn a_difference_shows_the_smallest_script() {
             let post = State(state).post(lane);
             let log = &post.log[..usize::from(post.logged)];
             if log.iter().filter(|&&place| place / 16 == 1).count() == 2 {
-                state[928 * lane + 927] += 1;
+                state[ROWS + ROW_CELLS * lane + LOGGED] += 1;
             }
         }
     });
@@ -270,7 +210,7 @@ fn a_difference_shows_the_smallest_script() {
     assert!(found.difference.case.lines() <= 5, "{text}");
     for part in [
         "\n(order 1 0)\n(order 1 0)\n",
-        "drift_script_state, air of 65536 bytes and 7692 bytes lent",
+        "drift_script_state, air of 65536 bytes and 4476 cells lent",
         "length of the log\n  second implementation 2\n  static library        3\n",
     ] {
         assert!(text.contains(part), "{part}\n{text}");

@@ -1,9 +1,15 @@
 //! The exported functions of the proved crates, for programs in Rust. What each
 //! asks and answers stands in `c/drift.h`.
 
+mod answer;
 mod post;
+mod state;
 
+pub use answer::{BadScript, LastAnswer};
 pub use post::{Heard, Order, Post, Sent};
+pub use state::{Row, State};
+
+use answer::Answer;
 
 /// Number of bytes in a frame, and in the buffer for one.
 pub const FRAME_LENGTH: usize = 32;
@@ -14,8 +20,8 @@ pub const FRAME_FIELDS: usize = 22;
 pub const AIR_LENGTH: usize = 65_536;
 /// Number of bytes of the output of a script.
 pub const OUTPUT_LENGTH: usize = 131_072;
-/// Number of bytes of the state behind a script.
-pub const STATE_LENGTH: usize = 7_692;
+/// Number of cells, of 16 bits each, of the state behind a script.
+pub const STATE_CELLS: usize = 4_476;
 
 /// The functions as they are in the static libraries. Every pointer goes with
 /// the number of elements that it points to, but for that to a post's record;
@@ -54,9 +60,9 @@ pub mod raw {
             script_length: usize,
             air: *mut u8,
             air_length: usize,
-            state: *mut u8,
-            state_length: usize,
-        ) -> usize;
+            state: *mut u16,
+            state_cells: usize,
+        ) -> u64;
 
         pub fn drift_post_fresh(post: *mut Post, lane: u8, posts: u8, sources: u8, dests: u8)
             -> u8;
@@ -111,11 +117,18 @@ pub fn run_script(script: &[u8], air: &mut [u8], output: &mut [u8]) -> usize {
     unsafe { raw::drift_run_script(text, length, bytes, bytes_length, to, to_length) }
 }
 
-/// Runs a script and writes the state behind it; gives `STATE_LENGTH`, or 0 if
-/// the script is refused or the state has another length.
-pub fn script_state(script: &[u8], air: &mut [u8], state: &mut [u8]) -> usize {
+/// Runs a script; gives the state behind its printout and what its last line
+/// answered. A script that is refused leaves the air as it was; on an air that has
+/// not `AIR_LENGTH` bytes each step is refused by 13.
+pub fn script_state(script: &[u8], air: &mut [u8]) -> Result<(State, LastAnswer), BadScript> {
+    let mut cells = [0; STATE_CELLS];
     let (text, length) = (script.as_ptr(), script.len());
     let (bytes, bytes_length) = (air.as_mut_ptr(), air.len());
-    let (to, to_length) = (state.as_mut_ptr(), state.len());
-    unsafe { raw::drift_script_state(text, length, bytes, bytes_length, to, to_length) }
+    let to = cells.as_mut_ptr();
+    let answer =
+        unsafe { raw::drift_script_state(text, length, bytes, bytes_length, to, STATE_CELLS) };
+    let answer = Answer(answer).of_script();
+    let answer = answer.expect("a state of STATE_CELLS cells is not refused")?;
+    let state = State::read(&cells).expect("the cells of a state are numbers of a yard");
+    Ok((state, answer))
 }

@@ -1,11 +1,16 @@
 //! A post run singly, on a record that the host keeps and lends to each step.
 
+use crate::answer::{accepted, Answer};
 use crate::raw;
 
 /// Orders that one lane can send.
 const ORDERS_PER_LANE: u8 = 16;
 /// Orders that all lanes together can send.
-const ORDERS: usize = 128;
+pub(crate) const ORDERS: usize = 128;
+/// Stamps of the newest-stamp table.
+pub(crate) const TABLE_LENGTH: usize = 136;
+/// Number of lanes.
+pub(crate) const LANES: usize = 8;
 
 /// A post's record: `struct drift_post` of `c/drift.h`, 928 bytes without a gap.
 /// Any numbers may stand here: each step judges the record (12).
@@ -23,9 +28,9 @@ pub struct Post {
     /// How many places of the log are in use.
     pub logged: u8,
     /// The last serial taken from each lane.
-    pub last: [u8; 8],
+    pub last: [u8; LANES],
     /// The newest stamps, at 17 × lane + serial; 0 is none.
-    pub table: [u16; 136],
+    pub table: [u16; TABLE_LENGTH],
     /// Stamps and words of the orders taken, at place 16 × lane + serial − 1.
     pub stamps: [u16; ORDERS],
     pub words: [u16; ORDERS],
@@ -76,8 +81,8 @@ impl Post {
         clock: 0,
         serial: 0,
         logged: 0,
-        last: [0; 8],
-        table: [0; 136],
+        last: [0; LANES],
+        table: [0; TABLE_LENGTH],
         stamps: [0; ORDERS],
         words: [0; ORDERS],
         log: [0; ORDERS],
@@ -94,13 +99,7 @@ impl Post {
     /// Refused by 6, 12 and 21 to 24, with record and buffer as they were.
     pub fn order(&mut self, word: u16, buffer: &mut [u8]) -> Result<Sent, u8> {
         let (to, length) = (buffer.as_mut_ptr(), buffer.len());
-        let answer = Answer(unsafe { raw::drift_post_order(self, word, to, length) });
-        accepted(answer.refusal())?;
-        Ok(Sent {
-            serial: answer.byte(24),
-            stamp: (answer.0 >> 32) as u16,
-            delivered: answer.delivered(),
-        })
+        Answer(unsafe { raw::drift_post_order(self, word, to, length) }).of_order()
     }
 
     /// Hears a frame; if it is taken, the frame to broadcast goes into the buffer
@@ -109,15 +108,7 @@ impl Post {
     pub fn hear(&mut self, frame: &[u8], buffer: &mut [u8]) -> Result<Heard, u8> {
         let (bytes, bytes_length) = (frame.as_ptr(), frame.len());
         let (to, length) = (buffer.as_mut_ptr(), buffer.len());
-        let answer = Answer(unsafe { raw::drift_post_hear(self, bytes, bytes_length, to, length) });
-        accepted(answer.refusal())?;
-        let heard = match answer.code() {
-            2 => Heard::Taken,
-            3 => Heard::Again,
-            4 => Heard::Early,
-            _ => Heard::Beacon,
-        };
-        Ok(heard(answer.delivered()))
+        Answer(unsafe { raw::drift_post_hear(self, bytes, bytes_length, to, length) }).of_hearing()
     }
 
     /// Sends a beacon; the frame to broadcast goes into the buffer of 32 bytes.
@@ -139,35 +130,5 @@ impl Post {
                 word: *self.words.get(usize::from(place))?,
             })
         })
-    }
-}
-
-/// The answer of an order or a hearing: from bit 0 the refusal, from 8 the code,
-/// from 16 the count delivered, from 24 the serial and from 32 the stamp.
-struct Answer(u64);
-
-impl Answer {
-    fn byte(&self, bit: u32) -> u8 {
-        (self.0 >> bit) as u8
-    }
-
-    fn refusal(&self) -> u8 {
-        self.byte(0)
-    }
-
-    fn code(&self) -> u8 {
-        self.byte(8)
-    }
-
-    fn delivered(&self) -> u8 {
-        self.byte(16)
-    }
-}
-
-/// Nothing, or the number of the refusal.
-fn accepted(refusal: u8) -> Result<(), u8> {
-    match refusal {
-        0 => Ok(()),
-        number => Err(number),
     }
 }

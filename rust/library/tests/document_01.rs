@@ -1,8 +1,8 @@
 //! The static libraries on the examples of document 01, as a host would call them.
 
 use drift_library::{
-    frame_check, frame_read, frame_write, run_script, script_state, AIR_LENGTH, FRAME_FIELDS,
-    OUTPUT_LENGTH, STATE_LENGTH,
+    frame_check, frame_read, frame_write, run_script, script_state, BadScript, Heard, LastAnswer,
+    Sent, State, AIR_LENGTH, FRAME_FIELDS, OUTPUT_LENGTH,
 };
 
 const SCRIPT: &[u8] = b"(yard (0 both) (1 source) (2 dest))
@@ -43,17 +43,80 @@ fn the_script_prints_and_leaves_its_frames() {
     assert_eq!(run_script(SCRIPT, &mut air, &mut output[1..]), 0);
 }
 
+/// The state and the last answer of a script that is not refused.
+fn after(script: &[u8]) -> (State, LastAnswer) {
+    script_state(script, &mut vec![0xA5; AIR_LENGTH]).expect("a good script")
+}
+
 #[test]
-fn the_state_has_the_clocks_and_the_last_answer() {
-    let mut air = vec![0; AIR_LENGTH];
-    let mut state = vec![0; STATE_LENGTH];
-    assert_eq!(script_state(SCRIPT, &mut air, &mut state), STATE_LENGTH);
-    let clock = |lane: usize| u16::from_be_bytes([state[928 * lane + 4], state[928 * lane + 5]]);
-    assert_eq!([clock(0), clock(1), clock(2)], [4, 3, 0]);
-    assert_eq!(state[7684..], [0, 25, 0, 0, 0, 0, 0, 0]);
-    let kept = state.clone();
-    assert_eq!(script_state(b"(roll)\n", &mut air, &mut state), 0);
-    assert_eq!(state, kept);
+fn the_state_has_the_posts_and_the_last_answer() {
+    let (state, answer) = after(SCRIPT);
+    assert_eq!(answer, LastAnswer::Refused(25));
+    assert_eq!((state.posts, state.sources), (0b111, 0b011));
+    assert_eq!((state.frames, state.beacons), (5, 0));
+    // The orders of lanes 0 and 1 are frames 0 and 2.
+    assert_eq!((state.first[0], state.first[16]), (0, 2));
+    let clocks = state.yard_posts().map(|post| post.clock);
+    assert_eq!(clocks.collect::<Vec<u16>>(), [4, 3, 0]);
+    let log = state.rows[0].post.logged_orders();
+    let log: Vec<_> = log
+        .map(|order| (order.stamp, order.lane, order.word))
+        .collect();
+    assert_eq!(log, [(1, 0, 417), (3, 1, 90)]);
+    assert_eq!(state.rows[0].known, [1, 1, 0, 0, 0, 0, 0, 0]);
+    assert_eq!(state.rows[1].known, [0; 8]);
+    assert_eq!(state.rows[2].known, [1, 0, 0, 0, 0, 0, 0, 0]);
+    // A lane without a post has a fresh row with the yard's sets.
+    let absent = state.rows[7].post;
+    assert_eq!((absent.lane, absent.posts, absent.dests), (7, 0b111, 0b101));
+    assert_eq!((absent.clock, absent.logged), (0, 0));
+}
+
+#[test]
+fn each_answer_of_a_last_line_comes() {
+    let with = |lines: &str| {
+        let steps = &SCRIPT[..SCRIPT.len() - "(hear 2 9)\n".len()];
+        after(&[steps, lines.as_bytes()].concat()).1
+    };
+    let sent = Sent {
+        serial: 2,
+        stamp: 5,
+        delivered: 0,
+    };
+    assert_eq!(after(b"(yard (7 relay))\n").1, LastAnswer::NoStep);
+    assert_eq!(with(""), LastAnswer::Heard(Heard::Taken(2)));
+    assert_eq!(with("(order 0 9)\n"), LastAnswer::OrderSent(sent));
+    assert_eq!(with("(hear 0 2)\n"), LastAnswer::Heard(Heard::Again(0)));
+    assert_eq!(with("(beacon 1)\n"), LastAnswer::BeaconSent);
+    assert_eq!(
+        with("(beacon 1)\n(hear 2 5)\n"),
+        LastAnswer::Heard(Heard::Beacon(0))
+    );
+    assert_eq!(with("(roll)\n"), LastAnswer::RollCallRan(10));
+}
+
+#[test]
+fn a_refused_script_leaves_the_air() {
+    let mut air = vec![0xA5; AIR_LENGTH];
+    for (script, line, number) in [
+        (vec![b'('; 48_001], 0, 1),
+        (b"".to_vec(), 1, 3),
+        (b"(roll)\n".to_vec(), 1, 3),
+        (b"(yard (0 both))\n(order 0 65536)\n".to_vec(), 2, 5),
+        (b"(yard (0 both))\n(roll)\n(roll)".to_vec(), 3, 2),
+    ] {
+        let bad = BadScript { line, number };
+        assert_eq!(script_state(&script, &mut air), Err(bad));
+    }
+    assert_eq!(air, vec![0xA5; AIR_LENGTH]);
+}
+
+#[test]
+fn an_air_of_another_length_leaves_a_fresh_yard() {
+    let (state, answer) = script_state(SCRIPT, &mut [0; 32]).expect("a good script");
+    assert_eq!(answer, LastAnswer::Refused(13));
+    let (fresh, _) = after(b"(yard (0 both) (1 source) (2 dest))\n");
+    assert_eq!(state, fresh);
 }
 
 #[test]

@@ -1,14 +1,11 @@
 //! A post's record stands in memory in C as it does in Rust: `c/record_layout.c`
 //! is compiled and run, and what it prints is compared with `drift_library::Post`.
 
-use drift_library::Post;
-use std::env;
-use std::mem::{align_of, offset_of, size_of};
-use std::path::Path;
-use std::process::Command;
+mod c_layout;
 
-/// The record or a field of it: its name, where it stands, how many bytes it has.
-type Place = (String, usize, usize);
+use c_layout::{parts_in_c, Part};
+use drift_library::Post;
+use std::mem::{align_of, offset_of, size_of};
 
 /// What `c/drift.h` says, the whole record first.
 const DOCUMENTED: [(&str, usize, usize); 13] = [
@@ -49,48 +46,15 @@ fn size_of_field<Field>(_: fn(&Post) -> &Field) -> usize {
     size_of::<Field>()
 }
 
-fn places_in_rust() -> Vec<Place> {
+fn places_in_rust() -> Vec<Part> {
     places_of_post!(
         lane, posts, sources, dests, clock, serial, logged, last, table, stamps, words, log
     )
 }
 
-/// Runs a command that must succeed; gives what it prints.
-fn run(command: &mut Command) -> String {
-    let output = command
-        .output()
-        .unwrap_or_else(|error| panic!("{command:?}: {error}"));
-    let told = String::from_utf8_lossy(&output.stderr);
-    assert!(output.status.success(), "{command:?}: {told}");
-    String::from_utf8(output.stdout).expect("the program prints text")
-}
-
-/// Compiles the C program by the compiler of `CC`, or else `cc`, and runs it.
-fn places_in_c() -> Vec<Place> {
-    let compiler = env::var("CC").unwrap_or_else(|_| "cc".to_string());
-    let mut words = compiler.split_whitespace();
-    let source = Path::new(env!("CARGO_MANIFEST_DIR")).join("../../c/record_layout.c");
-    let program = Path::new(env!("CARGO_TARGET_TMPDIR")).join("record_layout");
-    run(Command::new(words.next().expect("CC names a compiler"))
-        .args(words)
-        .args(["-std=c11", "-Wall", "-Wextra", "-Werror", "-o"])
-        .args([&program, &source]));
-    run(&mut Command::new(program)).lines().map(place).collect()
-}
-
-/// Reads a line `name offset size`.
-fn place(line: &str) -> Place {
-    let parts: Vec<&str> = line.split(' ').collect();
-    let [name, offset, size] = parts[..] else {
-        panic!("not a name and two numbers: {line}");
-    };
-    let number = |text: &str| text.parse().expect("a number");
-    (name.to_string(), number(offset), number(size))
-}
-
 #[test]
 fn every_field_stands_in_c_as_in_rust() {
-    assert_eq!(places_in_c(), places_in_rust());
+    assert_eq!(parts_in_c("record_layout"), places_in_rust());
 }
 
 #[test]

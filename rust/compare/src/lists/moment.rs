@@ -1,8 +1,9 @@
 //! The yard and the air at one moment, as the library's state tells them.
 
+use crate::answer::{told, Answered};
 use crate::library::Library;
 use crate::scripts::step::{Step, YardLine};
-use crate::state::{State, ANSWER, STATE_LENGTH};
+use crate::state::{State, STATE_CELLS};
 
 /// An order. Derived comparisons are by stamp and then lane.
 #[derive(Clone, Copy, Debug, PartialEq, Eq, PartialOrd, Ord)]
@@ -14,25 +15,30 @@ pub struct Order {
 }
 
 /// What the steps of a script left.
-#[derive(Clone, PartialEq, Eq)]
+#[derive(Clone)]
 pub struct Moment {
-    state: Vec<u8>,
+    state: Vec<u16>,
     pub air: Vec<u8>,
+    /// What the last line answered, or nothing if there is no such answer.
+    pub answered: Option<Answered>,
 }
 
 impl Moment {
     /// After a script, run over an air that had these bytes before.
     pub fn after(library: &dyn Library, script: &[u8], air: &[u8]) -> Result<Moment, String> {
-        let mut moment = Moment {
-            state: vec![0; STATE_LENGTH],
-            air: air.to_vec(),
-        };
-        let mut script = script.to_vec();
-        let length = library.script_state(&mut script, &mut moment.air, &mut moment.state);
-        match length {
-            STATE_LENGTH => Ok(moment),
-            _ => Err(format!("a good script gives a state of {length} bytes")),
+        // What the cells held does not matter: they hold something else each time.
+        let mut state = vec![script.len() as u16; STATE_CELLS];
+        let (mut script, mut air) = (script.to_vec(), air.to_vec());
+        let answer = library.script_state(&mut script, &mut air, &mut state);
+        let answered = Answered::read(answer);
+        if answered.is_some_and(|answered| !answered.has_run()) {
+            return Err(format!("a good script answers: {}", told(answer)));
         }
+        Ok(Moment {
+            state,
+            air,
+            answered,
+        })
     }
 
     pub fn state(&self) -> State<'_> {
@@ -41,7 +47,7 @@ impl Moment {
 
     /// Whether yard and air are the same; the last line's answer may be another.
     pub fn has_yard_and_air_of(&self, other: &Moment) -> bool {
-        self.state[..ANSWER] == other.state[..ANSWER] && self.air == other.air
+        self.state == other.state && self.air == other.air
     }
 
     /// A post's delivery log.

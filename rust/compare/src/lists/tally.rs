@@ -1,6 +1,6 @@
 //! How much of demand 3 was looked at.
 
-use crate::state::{Answer, Answered, ANSWERS};
+use crate::answer::{Answer, Answered, ANSWERS};
 use std::fmt;
 
 #[derive(Debug, Default)]

@@ -2,10 +2,11 @@
 
 use super::moment::{Moment, Order};
 use super::tally::Tally;
+use crate::answer::{Answer, Answered};
 use crate::library::Library;
 use crate::random::Random;
 use crate::scripts::step::{Step, YardLine};
-use crate::state::{Answer, Answered, State};
+use crate::state::State;
 use drift_reference::yard::AIR_LENGTH;
 
 pub struct Watch<'a> {
@@ -64,7 +65,7 @@ impl<'a> Watch<'a> {
         let now = Moment::after(self.library, &self.script, &self.first_air)?;
         let state = now.state();
         let is_fresh = (state.frames(), state.beacons()) == (0, 0) && now.air == self.first_air;
-        if !is_fresh || state.answered() != Some(Answered::of(Answer::YardMade)) {
+        if !is_fresh || now.answered != Some(Answered::of(Answer::NoStep, 0)) {
             return Err("the yard is not fresh".into());
         }
         self.tally.lists += 1;
@@ -80,8 +81,8 @@ impl<'a> Watch<'a> {
         self.script
             .extend_from_slice(format!("{step}\n").as_bytes());
         let now = Moment::after(self.library, &self.script, &self.first_air)?;
-        let answered = now.state().answered();
-        let answered = answered.ok_or(format!("{step}: there is no answer of its number"))?;
+        let answered = now.answered;
+        let answered = answered.ok_or(format!("{step}: there is no answer of its code"))?;
         self.tally.add_step(answered);
         check_answer(step, answered)?;
         self.check_growth(&before, &now, answered)?;
@@ -95,7 +96,7 @@ impl<'a> Watch<'a> {
         }
         self.note_logs(&now)?;
         if answered.answer == Answer::RollCallRan {
-            self.check_roll_call(script_before, &before, &now, answered.steps)?;
+            self.check_roll_call(script_before, &before, &now, answered.steps_or_line)?;
         }
         self.now = Some(now);
         Ok(())

@@ -2,9 +2,10 @@
 //! are ones that a post can reach.
 
 use super::{made_up, request};
+use crate::answer::Answer;
 use crate::lent_record::post_of;
 use crate::random::Random;
-use crate::request::{Answer, Request, Step};
+use crate::request::{Request, Step};
 use crate::second::Second;
 use drift_reference::frame::{Stamp, FRAME_LENGTH, ORDER};
 use drift_reference::post::Post;

@@ -1,23 +1,25 @@
 //! A script with all that is lent beside it, run by both sides.
 
+use crate::answer::Answered;
 use crate::library::Library;
 use crate::random::Random;
 use crate::second::Second;
-use crate::state::STATE_LENGTH;
+use crate::state::STATE_CELLS;
 use crate::stretch::Stretch;
 use drift_reference::script::OUTPUT_LENGTH;
 use drift_reference::yard::AIR_LENGTH;
+use std::fmt::Debug;
 
 /// Stands around the script: reading past its end would find a line feed there.
 const AROUND_SCRIPT: u8 = b'\n';
 
-/// A script, the lengths of what is lent, and the seed of the bytes in that.
+/// A script, the lengths of what is lent, and the seed of the numbers in that.
 #[derive(Clone, Debug, PartialEq, Eq)]
 pub struct Case {
     pub script: Vec<u8>,
     pub air_length: usize,
     pub output_length: usize,
-    pub state_length: usize,
+    pub state_cells: usize,
     pub seed: u64,
 }
 
@@ -30,11 +32,18 @@ pub enum Function {
 /// What a function answered, and how it left what was lent.
 #[derive(Debug, PartialEq, Eq)]
 pub struct Ran {
-    pub answer: usize,
+    /// The number of bytes printed, or the answer of the state.
+    pub answer: u64,
     pub script: Stretch<u8>,
     pub air: Stretch<u8>,
-    /// The output or the state.
-    pub written: Stretch<u8>,
+    pub written: Written,
+}
+
+/// What a function writes beside the air.
+#[derive(Debug, PartialEq, Eq)]
+pub enum Written {
+    Output(Stretch<u8>),
+    State(Stretch<u16>),
 }
 
 /// A case that the two sides did not run alike.
@@ -50,8 +59,9 @@ pub struct Difference {
 #[derive(Debug)]
 pub struct Outcome {
     pub printout: Vec<u8>,
-    /// Nothing if the script is bad or the state has not its length.
-    pub state: Option<Vec<u8>>,
+    pub answered: Answered,
+    /// Nothing if script or state are refused.
+    pub state: Option<Vec<u16>>,
 }
 
 impl Case {
@@ -61,7 +71,7 @@ impl Case {
             script,
             air_length: AIR_LENGTH,
             output_length: OUTPUT_LENGTH,
-            state_length: STATE_LENGTH,
+            state_cells: STATE_CELLS,
             seed,
         }
     }
@@ -74,10 +84,12 @@ impl Case {
     /// Runs the case by both sides; gives the right outcome, or the difference.
     pub fn compare(&self, library: &dyn Library) -> Result<Outcome, Box<Difference>> {
         let run = self.compare_function(library, Function::Run)?;
-        let state = self.compare_function(library, Function::State)?;
+        let left = self.compare_function(library, Function::State)?;
+        let answered = Answered::read(left.answer).expect("a right answer");
         Ok(Outcome {
-            printout: run.written.numbers()[..run.answer].to_vec(),
-            state: (state.answer > 0).then(|| state.written.numbers().to_vec()),
+            printout: run.printout().to_vec(),
+            answered,
+            state: left.state().filter(|_| answered.has_run()).map(Vec::from),
         })
     }
 
@@ -87,9 +99,9 @@ impl Case {
         function: Function,
     ) -> Result<Ran, Box<Difference>> {
         let mut reference = self.lend(function);
-        reference.run(&Second, function);
+        reference.run(&Second);
         let mut answered = self.lend(function);
-        answered.run(library, function);
+        answered.run(library);
         if answered == reference {
             return Ok(reference);
         }
@@ -101,36 +113,50 @@ impl Case {
         }))
     }
 
-    /// What is lent to a function; the same case lends the same bytes each time.
+    /// What is lent to a function; the same case lends the same numbers each time.
     fn lend(&self, function: Function) -> Ran {
         let mut random = Random::new(self.seed);
-        let length = match function {
-            Function::Run => self.output_length,
-            Function::State => self.state_length,
-        };
         Ran {
             answer: 0,
             script: Stretch::new(self.script.iter().copied(), AROUND_SCRIPT),
-            air: any_bytes(&mut random, self.air_length),
-            written: any_bytes(&mut random, length),
+            air: any_numbers(&mut random, self.air_length, u64::to_be_bytes),
+            written: match function {
+                Function::Run => {
+                    let length = self.output_length;
+                    Written::Output(any_numbers(&mut random, length, u64::to_be_bytes))
+                }
+                Function::State => {
+                    Written::State(any_numbers(&mut random, self.state_cells, cells))
+                }
+            },
         }
     }
 }
 
 impl Ran {
-    fn run(&mut self, library: &dyn Library, function: Function) {
+    fn run(&mut self, library: &dyn Library) {
         let (script, air) = (self.script.lent(), self.air.lent());
-        let written = self.written.lent();
-        self.answer = match function {
-            Function::Run => library.run_script(script, air, written),
-            Function::State => library.script_state(script, air, written),
+        self.answer = match &mut self.written {
+            Written::Output(output) => library.run_script(script, air, output.lent()) as u64,
+            Written::State(state) => library.script_state(script, air, state.lent()),
         };
     }
 
-    /// The answered number of bytes at the beginning, if there are so many.
+    /// The answered number of bytes at the beginning of the output, if there are
+    /// so many.
     pub fn printout(&self) -> &[u8] {
-        let written = self.written.numbers();
-        written.get(..self.answer).unwrap_or(written)
+        let Written::Output(output) = &self.written else {
+            return &[];
+        };
+        let output = output.numbers();
+        output.get(..self.answer as usize).unwrap_or(output)
+    }
+
+    fn state(&self) -> Option<&[u16]> {
+        match &self.written {
+            Written::Output(_) => None,
+            Written::State(state) => Some(state.numbers()),
+        }
     }
 }
 
@@ -138,20 +164,30 @@ impl Difference {
     /// What differs, in a word.
     pub fn what(&self) -> &'static str {
         let (reference, library) = (&self.reference, &self.library);
-        let is_written_alike =
-            reference.answer == library.answer && reference.written == library.written;
+        let is_written_alike = reference.written == library.written;
+        let is_answered_alike = reference.answer == library.answer;
         match self.function {
-            Function::Run if !is_written_alike => "printout",
+            Function::Run if !is_written_alike || !is_answered_alike => "printout",
             Function::State if !is_written_alike => "state",
+            Function::State if !is_answered_alike => "answer",
             _ if reference.air != library.air => "air",
             _ => "script",
         }
     }
 }
 
-/// Random bytes, with random margins.
-fn any_bytes(random: &mut Random, length: usize) -> Stretch<u8> {
-    let margin = random.byte();
-    let bytes = std::iter::repeat_with(|| random.bits().to_be_bytes()).flatten();
-    Stretch::new(bytes.take(length), margin)
+/// Random numbers with random margins; `split` makes some of 64 bits.
+fn any_numbers<Number: Copy + Debug, const COUNT: usize>(
+    random: &mut Random,
+    length: usize,
+    split: fn(u64) -> [Number; COUNT],
+) -> Stretch<Number> {
+    let margin = split(random.bits())[0];
+    let numbers = std::iter::repeat_with(|| split(random.bits())).flatten();
+    Stretch::new(numbers.take(length), margin)
+}
+
+/// 64 bits as four cells.
+fn cells(bits: u64) -> [u16; 4] {
+    [0, 16, 32, 48].map(|bit| (bits >> bit) as u16)
 }

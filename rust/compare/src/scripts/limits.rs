@@ -50,7 +50,15 @@ const BENCH: [&str; 18] = [
 const WRONG_AIRS: [usize; 7] = [0, 1, 32, 65_504, 65_535, 65_537, 131_072];
 
 const WRONG_OUTPUTS: [usize; 5] = [0, 1, 131_071, 131_073, 262_144];
-const WRONG_STATES: [usize; 5] = [0, 1, 7_691, 7_693, 73_228];
+const WRONG_STATES: [usize; 7] = [0, 1, 2_238, 4_475, 4_477, 8_952, 70_012];
+
+/// Bad scripts, by 2, 3, 4 and 5: a state of another length is judged before them.
+const BAD: [&str; 4] = [
+    "(yard (0 both))\n(roll)",
+    "",
+    "(yard (0 both))\n(beacon 8)\n",
+    "(yard (0 both))\n(roll)\n(order 0 65536)\n",
+];
 
 /// All fixed cases, each made when it is asked for.
 pub fn cases() -> impl Iterator<Item = Case> {
@@ -221,10 +229,19 @@ fn wrong_lengths() -> Vec<Case> {
             output_length,
             ..case.clone()
         }));
-        cases.extend(WRONG_STATES.map(|state_length| Case {
-            state_length,
-            ..case.clone()
-        }));
+        cases.extend(wrong_states(&case));
+    }
+    for (number, text) in (100..).zip(BAD) {
+        let case = Case::new(text.as_bytes().to_vec(), number);
+        cases.extend(wrong_states(&case));
     }
     cases
+}
+
+/// The case with a state of each wrong length.
+fn wrong_states(case: &Case) -> impl Iterator<Item = Case> + '_ {
+    WRONG_STATES.into_iter().map(|state_cells| Case {
+        state_cells,
+        ..case.clone()
+    })
 }

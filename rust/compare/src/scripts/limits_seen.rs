@@ -3,7 +3,8 @@
 use super::case::{Case, Outcome};
 use super::draft::LONGEST_SCRIPT;
 use super::step::YardLine;
-use crate::state::{Answer, State, STATE_LENGTH};
+use crate::answer::Answer;
+use crate::state::{State, STATE_CELLS};
 use drift_reference::script::OUTPUT_LENGTH;
 use drift_reference::yard::AIR_LENGTH;
 
@@ -13,10 +14,10 @@ pub struct Look<'a> {
     pub outcome: &'a Outcome,
 }
 
-type Limit = (&'static str, fn(&Look) -> bool);
+pub type Limit = (&'static str, fn(&Look) -> bool);
 
 /// The limits of document 01, and yards of all sizes and roles.
-pub const LIMITS: [Limit; 29] = [
+pub const LIMITS: [Limit; 28] = [
     ("the empty script", |look| look.case.script.is_empty()),
     ("a script of 48,000 bytes that runs", |look| {
         look.case.script.len() == LONGEST_SCRIPT && look.state().is_some()
@@ -30,18 +31,17 @@ pub const LIMITS: [Limit; 29] = [
     ("a printout of over 128,000 bytes", |look| {
         look.outcome.printout.len() > 128_000
     }),
-    ("an air of no bytes", |look| look.case.air_length == 0),
-    ("an air that is too short", |look| {
-        look.case.air_length == AIR_LENGTH - 1
+    ("a script refused at line 0", |look| {
+        look.bad_line() == Some(0)
     }),
-    ("an air that is too long", |look| {
-        look.case.air_length == AIR_LENGTH + 1
+    ("a script refused at line 1", |look| {
+        look.bad_line() == Some(1)
     }),
-    ("an output of another length", |look| {
-        look.case.output_length != OUTPUT_LENGTH
+    ("a script refused at line 2", |look| {
+        look.bad_line() == Some(2)
     }),
-    ("a state of another length", |look| {
-        look.case.state_length != STATE_LENGTH
+    ("a script refused at a line over 255", |look| {
+        look.bad_line() > Some(255)
     }),
     ("16 orders of lane 0", |look| look.has_sent_all(0)),
     ("16 orders of lane 3", |look| look.has_sent_all(3)),
@@ -82,6 +82,30 @@ pub const LIMITS: [Limit; 29] = [
     }),
 ];
 
+/// Wrong lengths of what is lent.
+pub const LENGTHS: [Limit; 8] = [
+    ("an air of no bytes", |look| look.case.air_length == 0),
+    ("an air that is too short", |look| {
+        look.case.air_length == AIR_LENGTH - 1
+    }),
+    ("an air that is too long", |look| {
+        look.case.air_length == AIR_LENGTH + 1
+    }),
+    ("an output of another length", |look| {
+        look.case.output_length != OUTPUT_LENGTH
+    }),
+    ("a state of no cells", |look| look.case.state_cells == 0),
+    ("a state that is too short", |look| {
+        look.case.state_cells == STATE_CELLS - 1
+    }),
+    ("a state that is too long", |look| {
+        look.case.state_cells == STATE_CELLS + 1
+    }),
+    ("a bad script with a state of another length", |look| {
+        look.case.state_cells != STATE_CELLS && look.is_bad()
+    }),
+];
+
 impl<'a> Look<'a> {
     fn state(&self) -> Option<State<'a>> {
         self.outcome.state.as_deref().map(State)
@@ -106,7 +130,17 @@ impl<'a> Look<'a> {
 
     /// The steps of the roll call that is the last line.
     fn steps(&self) -> Option<u16> {
-        let answered = self.state()?.answered()?;
-        (answered.answer == Answer::RollCallRan).then_some(answered.steps)
+        let answered = self.outcome.answered;
+        (answered.answer == Answer::RollCallRan).then_some(answered.steps_or_line)
+    }
+
+    /// The line at which the script is refused by the state.
+    fn bad_line(&self) -> Option<u16> {
+        let answered = self.outcome.answered;
+        (answered.answer == Answer::ScriptRefused).then_some(answered.steps_or_line)
+    }
+
+    fn is_bad(&self) -> bool {
+        self.outcome.printout.starts_with(b"(bad ")
     }
 }

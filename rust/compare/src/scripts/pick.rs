@@ -1,7 +1,6 @@
 //! Picks the next step of a list by what the yard has done so far.
 
 use super::step::{Step, YardLine};
-use crate::layout::pair;
 use crate::posts::made_up::{lane_in, some_posts, subset};
 use crate::random::Random;
 use crate::state::State;
@@ -59,7 +58,9 @@ impl<'a> Sight<'a> {
     pub fn has_news(&self, lane: u8, frame: &[u8]) -> bool {
         let entries = frame[8..].chunks_exact(3);
         let mut known = self.last[usize::from(lane)].iter().zip(entries);
-        known.any(|(&(serial, stamp), entry)| entry[0] == serial && pair(entry, 1) > stamp)
+        known.any(|(&(serial, stamp), entry)| {
+            entry[0] == serial && u16::from_be_bytes([entry[1], entry[2]]) > stamp
+        })
     }
 }
 

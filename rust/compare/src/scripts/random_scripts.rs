@@ -42,7 +42,7 @@ pub fn case(seed: u64, number: u64) -> Case {
     }
     if random.one_in(200) {
         case.output_length = random.pick(&[131_071, 131_073]);
-        case.state_length = random.pick(&[7_691, 7_693]);
+        case.state_cells = random.pick(&[0, 4_475, 4_477]);
     }
     case
 }

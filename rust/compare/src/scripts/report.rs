@@ -1,8 +1,9 @@
 //! A difference between two runs of a script in readable words.
 
-use super::case::{Difference, Function, Ran};
+use super::case::{Difference, Function, Ran, Written};
+use crate::answer::{told, Answered};
 use crate::report::{differing_fields, hex};
-use crate::state::{state_field, STATE_LENGTH};
+use crate::state::{state_field, STATE_CELLS};
 use crate::stretch::Stretch;
 use drift_reference::frame::FRAME_LENGTH;
 use std::fmt::{self, Display};
@@ -37,15 +38,14 @@ impl Display for Difference {
         writeln!(output, "the script ({length} bytes)")?;
         write!(output, "{}", escaped(&case.script))?;
         let (function, lent) = match self.function {
-            Function::Run => ("drift_run_script", case.output_length),
-            Function::State => ("drift_script_state", case.state_length),
+            Function::Run => ("drift_run_script", format!("{} bytes", case.output_length)),
+            Function::State => ("drift_script_state", format!("{} cells", case.state_cells)),
         };
         let (air, seed) = (case.air_length, case.seed);
         writeln!(
             output,
-            "{function}, air of {air} bytes and {lent} bytes lent, filled by seed {seed}"
+            "{function}, air of {air} bytes and {lent} lent, filled by seed {seed}"
         )?;
-        line(output, "answer", self.reference.answer, self.library.answer)?;
         self.write_written(output)?;
         self.write_air(output)?;
         for (name, ran) in [
@@ -62,24 +62,51 @@ impl Display for Difference {
 
 impl Difference {
     fn write_written(&self, output: &mut fmt::Formatter) -> fmt::Result {
-        let (reference, library) = (&self.reference.written, &self.library.written);
-        let (right, wrong) = (reference.numbers(), library.numbers());
-        let is_answered_alike = self.reference.answer == self.library.answer;
-        match self.function {
-            Function::Run => {
-                write_some(output, differing_lines(&self.reference, &self.library))?;
-                let used = self.reference.printout().len();
-                if is_answered_alike && right[used..] != wrong[used..] {
-                    writeln!(output, "the bytes after the printout differ")?;
-                }
+        match (&self.reference.written, &self.library.written) {
+            (Written::Output(right), Written::Output(wrong)) => {
+                self.write_output(output, right, wrong)
             }
-            Function::State if is_answered_alike && right.len() == STATE_LENGTH => {
-                write_some(output, differing_fields(right, wrong, state_field))?;
+            (Written::State(right), Written::State(wrong)) => {
+                self.write_state(output, right, wrong)
             }
-            Function::State if right != wrong => writeln!(output, "the state's bytes differ")?,
-            Function::State => {}
+            _ => unreachable!("both sides run the same function"),
         }
-        tell_margins(output, "output or state", reference, library)
+    }
+
+    fn write_output(
+        &self,
+        output: &mut fmt::Formatter,
+        right: &Stretch<u8>,
+        wrong: &Stretch<u8>,
+    ) -> fmt::Result {
+        let [answer, other] = [&self.reference, &self.library].map(|ran| ran.answer);
+        line(output, "answer", answer, other)?;
+        write_some(output, differing_lines(&self.reference, &self.library))?;
+        let used = self.reference.printout().len();
+        if answer == other && right.numbers()[used..] != wrong.numbers()[used..] {
+            writeln!(output, "the bytes after the printout differ")?;
+        }
+        tell_margins(output, "output", right, wrong)
+    }
+
+    fn write_state(
+        &self,
+        output: &mut fmt::Formatter,
+        right: &Stretch<u16>,
+        wrong: &Stretch<u16>,
+    ) -> fmt::Result {
+        let answers = [&self.reference, &self.library].map(|ran| ran.answer);
+        let [answer, other] = answers.map(told);
+        line(output, "answer", answer, other)?;
+        let have_run = answers.map(|answer| Answered::read(answer).is_some_and(Answered::has_run));
+        let (cells, others) = (right.numbers(), wrong.numbers());
+        // If only one side has run the script, all is different.
+        match have_run[0] == have_run[1] && cells.len() == STATE_CELLS {
+            true => write_some(output, differing_fields(cells, others, state_field))?,
+            false if cells != others => writeln!(output, "the state's cells differ")?,
+            false => {}
+        }
+        tell_margins(output, "state", right, wrong)
     }
 
     fn write_air(&self, output: &mut fmt::Formatter) -> fmt::Result {
@@ -151,15 +178,15 @@ fn line<Value: Display>(
     writeln!(output, "  static library        {wrong}")
 }
 
-fn tell_margins(
+fn tell_margins<Number: Copy + fmt::Debug + PartialEq>(
     output: &mut fmt::Formatter,
     name: &str,
-    reference: &Stretch<u8>,
-    library: &Stretch<u8>,
+    reference: &Stretch<Number>,
+    library: &Stretch<Number>,
 ) -> fmt::Result {
     match reference.margins().eq(library.margins()) {
         true => Ok(()),
-        false => writeln!(output, "bytes outside of the {name} were written"),
+        false => writeln!(output, "what stands beside the {name} was written"),
     }
 }
 

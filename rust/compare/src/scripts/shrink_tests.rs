@@ -7,7 +7,7 @@ use super::step::YardLine;
 use crate::library::Library;
 use crate::random::Random;
 use crate::second::Second;
-use crate::state::{State, STATE_LENGTH};
+use crate::state::{State, STATE_CELLS};
 use drift_reference::yard::AIR_LENGTH;
 
 /// A script of many picked steps, without roll calls.
@@ -49,9 +49,10 @@ fn lines_that_do_not_matter_are_left_out() {
 
 /// Whether the script runs and post 2 has logged two orders.
 fn logs_two(script: &[u8]) -> bool {
-    let (mut air, mut state) = (vec![0; AIR_LENGTH], vec![0; STATE_LENGTH]);
-    let length = Second.script_state(&mut script.to_vec(), &mut air, &mut state);
-    length > 0 && State(&state).post(2).logged >= 2
+    let (mut air, mut state) = (vec![0; AIR_LENGTH], vec![0; STATE_CELLS]);
+    Second.script_state(&mut script.to_vec(), &mut air, &mut state);
+    // A script that is refused leaves the state as it was.
+    State(&state).post(2).logged >= 2
 }
 
 #[test]

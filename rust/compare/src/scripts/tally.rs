@@ -1,9 +1,9 @@
 //! How often each answer, refusal, size and limit of scripts came.
 
 use super::case::{Case, Outcome};
-use super::limits_seen::{Look, LIMITS};
+use super::limits_seen::{Limit, Look, LENGTHS, LIMITS};
 use super::step::{Step, STEPS};
-use crate::state::{Answer, State, ANSWERS};
+use crate::answer::{Answer, ANSWERS, CODES};
 use std::fmt;
 
 /// The refusals that each step can give in a yard.
@@ -36,13 +36,14 @@ pub struct Tally {
     sizes: [u64; SIZES.len()],
     /// Bad scripts, by refusal.
     bad: [u64; 6],
-    /// What the last line answered: by answer, and of them the delivering ones.
-    answers: [u64; ANSWERS.len()],
-    delivering: [u64; ANSWERS.len()],
+    /// What the state answered: by code, and of them the delivering ones.
+    answers: [u64; CODES],
+    delivering: [u64; CODES],
     /// Refusals that the last line answered, and refusals that were printed.
     last: ByStep,
     printed: ByStep,
     limits: [u64; LIMITS.len()],
+    lengths: [u64; LENGTHS.len()],
 }
 
 impl Tally {
@@ -51,13 +52,12 @@ impl Tally {
         let size = SIZES.iter().position(|&end| case.script.len() <= end);
         self.sizes[size.expect("a length has a size")] += 1;
         let lines = lines(&case.script);
-        let state = outcome.state.as_deref().map(State);
-        if let Some(answered) = state.and_then(State::answered) {
-            self.answers[answered.answer as usize] += 1;
-            self.delivering[answered.answer as usize] += u64::from(answered.count > 0);
-            if let Some(step) = lines.last().copied().and_then(Step::read) {
-                self.last[step.kind()][usize::from(answered.refusal)] += 1;
-            }
+        let answered = outcome.answered;
+        self.answers[answered.answer as usize] += 1;
+        self.delivering[answered.answer as usize] += u64::from(answered.count > 0);
+        let last = lines.last().copied().and_then(Step::read);
+        if let (Some(step), true) = (last, answered.has_run()) {
+            self.last[step.kind()][usize::from(answered.refusal)] += 1;
         }
         for refused in outcome.printout.split(|&byte| byte == b'\n') {
             match numbers_after(refused, "(refused ") {
@@ -72,7 +72,8 @@ impl Tally {
             }
         }
         let look = Look { case, outcome };
-        for (count, (_, is_reached)) in self.limits.iter_mut().zip(LIMITS) {
+        let counts = self.limits.iter_mut().chain(&mut self.lengths);
+        for (count, (_, is_reached)) in counts.zip(limits()) {
             *count += u64::from(is_reached(&look));
         }
     }
@@ -84,11 +85,11 @@ impl Tally {
     /// What never came, so that the comparison says nothing of it.
     pub fn never_came(&self) -> Vec<String> {
         let mut counts = self.counts_of_scripts();
-        for (answer, name) in ANSWERS {
+        for (answer, name) in ANSWERS.into_iter().take(CODES) {
             let place = answer as usize;
-            counts.push((self.answers[place], format!("last line: {name}")));
+            counts.push((self.answers[place], format!("answer: {name}")));
             if DELIVERING.contains(&answer) {
-                let name = format!("last line: {name} with a delivery");
+                let name = format!("answer: {name} with a delivery");
                 counts.push((self.delivering[place], name));
             }
         }
@@ -110,7 +111,7 @@ impl Tally {
         let bad = bad.map(|(number, count)| (count, format!("a script that is bad by {number}")));
         let sizes = self.sizes.into_iter().zip(SIZES);
         let sizes = sizes.map(|(count, end)| (count, format!("a script of up to {end} bytes")));
-        let limits = self.limits.into_iter().zip(LIMITS);
+        let limits = self.limits.into_iter().chain(self.lengths).zip(limits());
         let limits = limits.map(|(count, (name, _))| (count, name.to_string()));
         bad.chain(sizes).chain(limits).collect()
     }
@@ -152,8 +153,8 @@ impl fmt::Display for Tally {
         for (number, count) in self.bad.iter().enumerate().skip(1) {
             writeln!(output, "{:<26}{count:>10}", format!("bad by {number}"))?;
         }
-        writeln!(output, "{:<26}{:>10}{:>10}", "last line", "all", "deliver")?;
-        for (answer, name) in ANSWERS {
+        writeln!(output, "{:<26}{:>10}{:>10}", "answer", "all", "deliver")?;
+        for (answer, name) in ANSWERS.into_iter().take(CODES) {
             write!(output, "{name:<26}{:>10}", self.answers[answer as usize])?;
             match DELIVERING.contains(&answer) {
                 true => writeln!(output, "{:>10}", self.delivering[answer as usize])?,
@@ -168,6 +169,11 @@ impl fmt::Display for Tally {
         self.write_refusals(output, "last line refused by", &self.last)?;
         self.write_refusals(output, "printed: refused by", &self.printed)
     }
+}
+
+/// The limits and lengths that must be reached.
+fn limits() -> impl Iterator<Item = Limit> {
+    LIMITS.into_iter().chain(LENGTHS)
 }
 
 /// The lines without their line feeds.

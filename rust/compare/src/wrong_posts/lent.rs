@@ -1,14 +1,15 @@
 //! Libraries that answer wrongly, or leave wrongly what was lent to them.
 
 use super::{assert_library_noticed, assert_noticed};
+use crate::answer::{Answer, Answered};
 use crate::lent_record::Record;
 use crate::library::Library;
 use crate::patched::Patched;
-use crate::request::{Answer, Outcome, Ran, Request, Step};
+use crate::request::{Ran, Request, Step};
 use crate::second::Second;
 
 /// Runs a request rightly, and then changes what came of it.
-fn changed(change: impl Fn(&Request, Outcome, &mut Ran)) -> impl Fn(&Request) -> Ran {
+fn changed(change: impl Fn(&Request, Answered, &mut Ran)) -> impl Fn(&Request) -> Ran {
     move |request| {
         let mut ran = request.run(&Second);
         let outcome = request.outcome(&ran);
@@ -146,7 +147,7 @@ fn wrong_answers_are_noticed() {
             let (mut record, mut copy) = (*post, buffer.to_vec());
             match Second.post_hear(&mut record, frame, &mut copy) {
                 refused @ 1..=255 => refused,
-                _ => Outcome::of(Answer::Again, 0).number(),
+                _ => Answered::of(Answer::Again, 0).number(),
             }
         }),
         ..Patched::default()
@@ -158,7 +159,7 @@ fn wrong_answers_are_noticed() {
         // Only an order or a hearing delivers.
         if outcome.count != 0 {
             let count = ran.record.record.logged;
-            ran.answer = Outcome { count, ..outcome }.number();
+            ran.answer = Answered { count, ..outcome }.number();
         }
     });
     assert_noticed("the count is the length of the log", whole_log);

@@ -3,10 +3,11 @@
 use super::delivery::deliver;
 use super::faults::Wrong;
 use super::refusals::{has, refusal};
+use crate::answer::{Answer, Answered};
 use crate::lent_record::{post_of, record_of, Record};
 use crate::patched::Patched;
 use crate::posts::clauses::fresh_record;
-use crate::request::{Answer, Outcome, Step};
+use crate::request::Step;
 use drift_reference::frame::{Entry, Frame, Serial, Stamp, BEACON, LANES, ORDER};
 use drift_reference::post::Post;
 
@@ -68,22 +69,22 @@ impl Asked<'_> {
 }
 
 /// Runs the step and brings the record up to date.
-fn answer(wrong: Wrong, mut asked: Asked, record: &mut Record) -> Outcome {
+fn answer(wrong: Wrong, mut asked: Asked, record: &mut Record) -> Answered {
     if let Some(number) = refusal(wrong, &asked) {
-        return Outcome::refused(number);
+        return Answered::refused(number);
     }
     if refusal(Wrong::Nothing, &asked).is_some() {
         // What a step does where it should be refused does not matter.
-        return Outcome::of(Answer::Again, 255);
+        return Answered::of(Answer::Again, 255);
     }
     let outcome = run(wrong, &mut asked);
     *record = record_of(&asked.post);
     outcome
 }
 
-fn run(wrong: Wrong, asked: &mut Asked) -> Outcome {
+fn run(wrong: Wrong, asked: &mut Asked) -> Answered {
     match asked.step {
-        Step::Fresh => Outcome::of(Answer::FreshMade, 0),
+        Step::Fresh => Answered::of(Answer::FreshMade, 0),
         Step::Order => order(wrong, asked),
         Step::Hear => hear(wrong, asked),
         Step::Beacon => {
@@ -97,12 +98,12 @@ fn run(wrong: Wrong, asked: &mut Asked) -> Outcome {
                 entries: newest(wrong, &asked.post),
             };
             broadcast(&frame, asked);
-            Outcome::of(Answer::BeaconSent, 0)
+            Answered::of(Answer::BeaconSent, 0)
         }
     }
 }
 
-fn order(wrong: Wrong, asked: &mut Asked) -> Outcome {
+fn order(wrong: Wrong, asked: &mut Asked) -> Answered {
     let post = &mut asked.post;
     post.clock.0 += 1;
     post.serial.0 += 1;
@@ -130,14 +131,14 @@ fn order(wrong: Wrong, asked: &mut Asked) -> Outcome {
         Wrong::OrderDoesNotDeliver => 0,
         _ => deliver(wrong, &mut asked.post),
     };
-    Outcome {
+    Answered {
         serial: serial.0,
         stamp: stamp.0,
-        ..Outcome::of(Answer::OrderSent, count)
+        ..Answered::of(Answer::OrderSent, count)
     }
 }
 
-fn hear(wrong: Wrong, asked: &mut Asked) -> Outcome {
+fn hear(wrong: Wrong, asked: &mut Asked) -> Answered {
     let frame = Frame::read(asked.frame).expect("it is not refused");
     let post = &mut asked.post;
     let old = newest(wrong, post);
@@ -169,7 +170,7 @@ fn hear(wrong: Wrong, asked: &mut Asked) -> Outcome {
         post.logged += 1;
         count += 1;
     }
-    Outcome::of(answer, count)
+    Answered::of(answer, count)
 }
 
 fn raise_entries(wrong: Wrong, post: &mut Post, frame: &Frame, answer: Answer) {

@@ -16,7 +16,7 @@ pub struct Edit {
 /// The old lines stand once in a file; the new ones come in their place.
 #[derive(Debug, PartialEq, Eq)]
 pub struct Change {
-    /// The file, in the folder of the second implementation.
+    /// The file, seen from the folder of the second implementation.
     pub file: String,
     pub old: String,
     pub new: String,

@@ -1,6 +1,7 @@
-//! Tries the comparison itself: makes a copy of the second implementation wrong
-//! by one edit after another (`wrong/NAME.edit`) and demands that the comparison
-//! with the proved crates notices each. `wrong-variants [NAME ..]`
+//! Tries the comparison itself: makes a copy of the second implementation, or of
+//! what the comparison expects of it, wrong by one edit after another
+//! (`wrong/NAME.edit`) and demands that the comparison with the proved crates
+//! notices each. `wrong-variants [NAME ..]`
 
 #![forbid(unsafe_code)]
 

@@ -8,35 +8,10 @@
  *       -o target/run_script c/run_script.c target/staticlib/libscript.a
  *   target/run_script examples/03-document-01.drift
  */
-#include "drift.h"
+#define PROGRAM "run_script"
+#include "script_host.h"
 
-#include <stdio.h>
-#include <string.h>
-
-/* One byte more than the longest script: so much is read that 1 is noticed. */
-static uint8_t script[DRIFT_LONGEST_SCRIPT + 1];
-static uint8_t air[DRIFT_AIR_LENGTH];
 static uint8_t output[DRIFT_OUTPUT_LENGTH];
-
-/* The byte that the unused rest of a buffer is filled with. */
-#define REST 0xA5
-
-static int differs(const char *what)
-{
-    fprintf(stderr, "run_script: %s\n", what);
-    return 1;
-}
-
-/* Whether each byte from a position on is as it was filled. */
-static int is_rest(const uint8_t *bytes, size_t from, size_t length)
-{
-    for (size_t i = from; i < length; i++) {
-        if (bytes[i] != REST) {
-            return 0;
-        }
-    }
-    return 1;
-}
 
 /* An output of another length is refused, and nothing is written. */
 static int try_wrong_output(size_t script_length)
@@ -73,19 +48,10 @@ static int try_wrong_air(void)
 
 int main(int argc, char **argv)
 {
-    if (argc != 2) {
-        return differs("usage: run_script SCRIPT");
-    }
-    FILE *file = fopen(argv[1], "rb");
-    if (file == NULL) {
-        perror(argv[1]);
+    size_t length = 0;
+
+    if (read_script(argc, argv, &length) != 0) {
         return 1;
-    }
-    size_t length = fread(script, 1, sizeof script, file);
-    int failed = ferror(file);
-    fclose(file);
-    if (failed) {
-        return differs("the script cannot be read");
     }
     if (try_wrong_output(length) != 0 || try_wrong_air() != 0) {
         return 1;

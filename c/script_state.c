@@ -11,37 +11,11 @@
  *
  * It then prints what c/script_state.out has.
  */
-#include "drift.h"
+#define PROGRAM "script_state"
+#include "script_host.h"
 
-#include <stdbool.h>
-#include <stdio.h>
-#include <string.h>
-
-/* One byte more than the longest script: so much is read that 1 is noticed. */
-static uint8_t script[DRIFT_LONGEST_SCRIPT + 1];
-static uint8_t air[DRIFT_AIR_LENGTH];
 /* One cell more than a state has, to see that a longer one is refused. */
 static uint16_t state[DRIFT_STATE_CELLS + 1];
-
-/* The byte that air and state are filled with beforehand. */
-#define REST 0xA5
-
-static int differs(const char *what)
-{
-    fprintf(stderr, "script_state: %s\n", what);
-    return 1;
-}
-
-/* Whether each byte from a position on is as it was filled. */
-static bool is_rest(const void *bytes, size_t from, size_t length)
-{
-    for (size_t i = from; i < length; i++) {
-        if (((const uint8_t *)bytes)[i] != REST) {
-            return false;
-        }
-    }
-    return true;
-}
 
 /* A state of another length is refused by 12, before the script is judged. */
 static int try_wrong_states(size_t length)
@@ -146,19 +120,10 @@ static int print_state(size_t length)
 
 int main(int argc, char **argv)
 {
-    if (argc != 2) {
-        return differs("usage: script_state SCRIPT");
-    }
-    FILE *file = fopen(argv[1], "rb");
-    if (file == NULL) {
-        perror(argv[1]);
+    size_t length = 0;
+
+    if (read_script(argc, argv, &length) != 0) {
         return 1;
-    }
-    size_t length = fread(script, 1, sizeof script, file);
-    int failed = ferror(file);
-    fclose(file);
-    if (failed) {
-        return differs("the script cannot be read");
     }
     /* What air and state hold beforehand does not matter. */
     memset(air, REST, sizeof air);

@@ -9,6 +9,7 @@ ghost use mathlib.Core.Path.{_≡_};
 ghost use Prim.Native.Nat.{_+_, _*_, _<_, _≤_, min};
 ghost use lib.ListN.{getD};
 ghost use Rattle.frame.specs.Lanes.{anyBelow};
+ghost use Rattle.cells.specs.Tables.{stampUnder};
 ghost use Rattle.post.specs.Record.{lastOf};
 ghost use Rattle.row.specs.Rows.{postIn, knownIn};
 ghost use Rattle.deliver.specs.Delivery.{allBelow};
@@ -19,9 +20,15 @@ const LAST: usize = row::LAST as usize;
 
 const KNOWN: usize = row::KNOWN as usize;
 
+const TABLE: usize = row::TABLE as usize;
+
 const STAMPS: usize = row::STAMPS as usize;
 
-// Orders of a lane.
+// Entries and orders of a lane, and its last serial. Places are of the machine's own width: the compiler sees that none wraps.
+const LANE_ENTRIES: usize = Serial::COUNT as usize;
+
+pub(crate) const LANE_ORDERS: usize = Serial::LAST as usize;
+
 pub(crate) const SERIALS: u16 = Serial::LAST as u16;
 
 // Whether each lane's last order taken is the last one known to be logged: then none waits.
@@ -47,10 +54,22 @@ pub(crate) fn least_of(row: &[u16]) -> Least
         stamp: Stamp(0),
     };
     for i in 0..row::LANES {
-        let heard = row::stamp_under(row, i, last_of(row, i));
+        let heard = heard_under(row, i, last_of(row, i));
         least = lower(least, cells::has(sources, i), heard);
     }
     least
+}
+
+// The stamp at (lane, serial) of the table; a serial over 16 has no entry.
+fn heard_under(row: &[u16], lane: u16, serial: SerialCell) -> Stamp
+    requires { do ⌜ (543 ≤ (← ⟦row.len()⟧)) × (lane < 8) ⌝ }
+    ensures { λ r. ⌜ r .0 ≡ stampUnder (postIn (now (row .entry)) .table) lane (serial .0) ⌝ }
+{
+    if serial.0 <= SERIALS {
+        Stamp(row[TABLE + (lane as usize) * LANE_ENTRIES + (serial.0 as usize)])
+    } else {
+        Stamp(0)
+    }
 }
 
 fn lower(least: Least, source: bool, heard: Stamp) -> Least
@@ -91,10 +110,10 @@ fn ready_in(lane: u16, row: &[u16], least: Least) -> bool
 {
     let from = known_at(row, lane);
     let taken = taken_from(row, lane);
-    let first = lane * SERIALS;
+    let first = (lane as usize) * LANE_ORDERS;
     let mut ready = false;
     for k in from.0..taken {
-        let stamp = stamp_of(row, first + k);
+        let stamp = stamp_of(row, first + (k as usize));
         ready = ready | up_to(least, stamp);
     }
     ready
@@ -135,9 +154,9 @@ pub(crate) fn known_at(row: &[u16], lane: u16) -> SerialCell
     SerialCell(row[KNOWN + (lane as usize)])
 }
 
-pub(crate) fn stamp_of(row: &[u16], place: u16) -> Stamp
+pub(crate) fn stamp_of(row: &[u16], place: usize) -> Stamp
     requires { do ⌜ (543 ≤ (← ⟦row.len()⟧)) × (place < 128) ⌝ }
     ensures { λ r. ⌜ r .0 ≡ getD (postIn (now (row .entry)) .stamps) place 0 ⌝ }
 {
-    Stamp(row[STAMPS + (place as usize)])
+    Stamp(row[STAMPS + place])
 }

@@ -10,7 +10,7 @@ use lib.ListN.{length, getD, take, drop, replicate}
 use Rattle.frame.specs.Lanes.{anyBelow}
 use Rattle.cells.specs.Sets.{roleAstray}
 use Rattle.post.specs.declared.Post.{Post}
-use Rattle.row.specs.Rows.{part, postIn, knownIn}
+use Rattle.row.specs.Rows.{part, postIn, knownIn, pastIn}
 use Rattle.deliver.specs.Known.{Known, knownBelow}
 use Rattle.deliver.proofs.KnownLaws.{known-none, below-known}
 use Rattle.judge.specs.Judgement.{badOrders, badLog, badRecord, recordRefusal}
@@ -31,15 +31,15 @@ numbers-are l lane serial logged own posts sources dests serials roles el es eg 
 
 -- what `refusal` promises
 abbrev pub Judged : List ℕ → ℕ → List ℕ → Type 0
-Judged l r m = (r ≡ rowRefusal l) × ((postIn m ≡ postIn l) × (knownIn m ≡ judgedKnown l))
+Judged l r m = (r ≡ rowRefusal l) × ((postIn m ≡ postIn l) × ((knownIn m ≡ judgedKnown l) × (pastIn m ≡ pastIn l)))
 
 pub cut-short : (l : List ℕ) → length l < 543 → Judged l 12 l
 unfolding rowRefusal judgedKnown
-cut-short l h = let e : leb 543 (length l) ≡ false = lt-leb 543 (length l) h in (rw e, (refl, rw e))
+cut-short l h = let e : leb 543 (length l) ≡ false = lt-leb 543 (length l) h in (rw e, (refl, (rw e, refl)))
 
 row-bad : (l : List ℕ) → 543 ≤ length l → badRecord (postIn l) ≡ true → Judged l 12 l
 unfolding rowRefusal judgedKnown
-row-bad l h b = let e : leb 543 (length l) ≡ true = le-leb 543 (length l) h in (rw (e, b), (refl, rw (e, b)))
+row-bad l h b = let e : leb 543 (length l) ≡ true = le-leb 543 (length l) h in (rw (e, b), (refl, (rw (e, b), refl)))
 
 -- what the tests but that of the log's orders said of a row
 pub record Tested (l : List ℕ) (n : ℕ) (a b v : Bool) : Type 0 where
@@ -85,13 +85,13 @@ used-bad l n numbers orders unused used t e b =
 
 pub all-good : (l m known : List ℕ) (n : ℕ) (numbers orders unused used : Bool) → Tested l n numbers orders unused → ((numbers || orders) || unused) ≡ false
     → used ≡ anyBelow (badUsedIn (take 8 (drop 6 l)) (take 128 (drop 414 l))) n → used ≡ false
-    → known ≡ knownBelow (replicate 8 0) (take 128 (drop 414 l)) 0 n → postIn m ≡ postIn l → knownIn m ≡ known
+    → known ≡ knownBelow (replicate 8 0) (take 128 (drop 414 l)) 0 n → postIn m ≡ postIn l → knownIn m ≡ known → pastIn m ≡ pastIn l
     → Judged l 0 m
 unfolding rowRefusal judgedKnown knownByLog postIn part
-all-good l m known n numbers orders unused used t b e u ek em km =
+all-good l m known n numbers orders unused used t b e u ek em km pm =
     let g : badRecord (postIn l) ≡ false = sym (bad-parts l n numbers orders unused used t e) ∙ rw u b in
     let w : leb 543 (length l) ≡ true = le-leb 543 (length l) (t .whole) in
-    (rw (w, g), (em, rw (km, ek, w, g, t .some)))
+    (rw (w, g), (em, (rw (km, ek, w, g, t .some), pm)))
 
 -- ---- what the log makes known is so
 

@@ -13,7 +13,7 @@ ghost use lib.Dec.{ltb};
 ghost use lib.ListN.{length, getD};
 ghost use Rattle.frame.specs.Lanes.{anyBelow};
 ghost use Rattle.cells.specs.Sets.{hasLane, roleAstray};
-ghost use Rattle.row.specs.Rows.{postIn, knownIn};
+ghost use Rattle.row.specs.Rows.{postIn, knownIn, pastIn};
 ghost use Rattle.judge.specs.OnRows.{rowRefusal, judgedKnown};
 ghost use Rattle.judge.specs.Parts.{badNumbers};
 
@@ -22,6 +22,7 @@ pub fn refusal(row: &mut [u16]) -> u8
     ensures { λ r. ⌜ r ≡ rowRefusal (now (row .entry)) ⌝ }
     ensures post { λ _. ⌜ postIn (now (row .exit)) ≡ postIn (now (row .entry)) ⌝ }
     ensures known { λ _. ⌜ knownIn (now (row .exit)) ≡ judgedKnown (now (row .entry)) ⌝ }
+    ensures past { λ _. ⌜ pastIn (now (row .exit)) ≡ pastIn (now (row .entry)) ⌝ }
 {
     if row.len() < row::LENGTH {
         return 12;
@@ -88,6 +89,7 @@ fn learn(row: &mut [u16], known: &[u16])
     requires { do ⌜ (543 ≤ (← ⟦row.len()⟧)) × (length (now known) ≡ 8) ⌝ }
     ensures { λ _. ⌜ postIn (now (row .exit)) ≡ postIn (now (row .entry)) ⌝ }
     ensures known { λ _. ⌜ knownIn (now (row .exit)) ≡ now (known .entry) ⌝ }
+    ensures past { λ _. ⌜ pastIn (now (row .exit)) ≡ pastIn (now (row .entry)) ⌝ }
 {
     for lane in 0..8u16 {
         row::put_known(row, lane, SerialCell(known[lane as usize]));

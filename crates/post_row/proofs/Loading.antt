@@ -9,15 +9,23 @@ use lib.Dec.{leb}
 use lib.ListN.{length, getD, set, take, drop, length-set}
 use lib.Seq.{getD-set-same}
 use Rattle.post.specs.declared.Post.{Post}
-use Rattle.row.specs.Rows.{part, putIn, postIn, knownIn}
-use Rattle.row.proofs.Laws.{part-apart, cell-apart}
-use Rattle.row.proofs.LentParts.{putPart, part-back, length-back, part-other, cell-other}
+use Rattle.row.specs.Rows.{putIn, postIn, knownIn, pastIn}
+use Rattle.row.proofs.Laws.{apart, part-apart, cell-apart, same-known-cell, same-past-cell}
+use Rattle.row.proofs.LentParts.{putPart, part-back, length-back, part-other, cell-other, past-other}
 use Rattle.post_row.specs.Records.{withNumbers, loadedIn}
 
 -- a part that was lent and is now ys
 pub lent : (l ys zs : List ℕ) (a n : ℕ) → zs ≡ ys → take a l ++ (zs ++ drop n (drop a l)) ≡ putPart l a n ys
 unfolding putPart
 lent l ys zs a n e = rw e
+
+-- then the row is whole as before, and what is known and what is past the record stay
+rest : (l m ys : List ℕ) (a n : ℕ) → 543 ≤ length l → length ys ≡ n → a + n ≤ 543 → apart a n 14 8 ≡ true → m ≡ putPart l a n ys
+    → (543 ≤ length m) × (knownIn m ≡ knownIn l) × (pastIn m ≡ pastIn l)
+unfolding knownIn
+rest l m ys a n h k w s e =
+    let i : a + n ≤ length l = omega arith in
+    rw e (rw (length-back l a n ys i k) h, part-other l a n ys i k 14 8 s, past-other l a n ys i k w)
 
 -- ---- one array
 
@@ -86,63 +94,46 @@ module _ (l : List ℕ) (a b c d e f : ℕ) (h : 543 ≤ length l) where
 -- the numbers of p
 pub numbers-load : (p : Post) (l m n : List ℕ) → 543 ≤ length l
     → m ≡ putPart l 0 6 (p .lane ∷ p .sources ∷ p .dests ∷ p .clock .0 ∷ p .serial .0 ∷ p .logged ∷ []) → n ≡ set m 542 (p .posts)
-    → (postIn n ≡ withNumbers (postIn l) p) × (knownIn n ≡ knownIn l)
-unfolding knownIn putIn
+    → (postIn n ≡ withNumbers (postIn l) p) × ((knownIn n ≡ knownIn l) × (pastIn n ≡ pastIn l))
 numbers-load p l m n h em en =
-    let ys : List ℕ = p .lane ∷ p .sources ∷ p .dests ∷ p .clock .0 ∷ p .serial .0 ∷ p .logged ∷ [] in
-    let i : 0 + 6 ≤ length l = omega arith in
-    let k : 543 ≤ length m = rw (em, length-back l 0 6 ys i refl) h in (
-      rw (en, put-posts m (p .posts) k, em, put-six l (p .lane) (p .sources) (p .dests) (p .clock .0) (p .serial .0) (p .logged) h),
-      rw (en, part-apart m 542 1 0 (p .posts) 14 8 refl, em) (part-other l 0 6 ys i refl 14 8 refl),
+    let r = rest l m (p .lane ∷ p .sources ∷ p .dests ∷ p .clock .0 ∷ p .serial .0 ∷ p .logged ∷ []) 0 6 h refl (omega arith) refl em in (
+      rw (en, put-posts m (p .posts) (r .0), em, put-six l (p .lane) (p .sources) (p .dests) (p .clock .0) (p .serial .0) (p .logged) h),
+      (same-known-cell m n 542 (p .posts) refl refl en ∙ r .1, same-past-cell m n 542 (p .posts) (omega arith) en ∙ r .2),
     )
 
 -- ---- the whole record
 
 abbrev Loaded : List ℕ → Post → List ℕ → Type 0
-Loaded l p m = (postIn m ≡ loadedIn l p) × (knownIn m ≡ knownIn l)
+Loaded l p m = (postIn m ≡ loadedIn l p) × ((knownIn m ≡ knownIn l) × (pastIn m ≡ pastIn l))
 
 pub loads : (p : Post) (l a b c d e m : List ℕ) → 543 ≤ length l → 543 ≤ length a → length (p .last) ≡ 8 → length (p .table) ≡ 136
     → length (p .stamps) ≡ 128 → length (p .words) ≡ 128 → length (p .log) ≡ 128
-    → postIn a ≡ withNumbers (postIn l) p → knownIn a ≡ knownIn l
+    → postIn a ≡ withNumbers (postIn l) p → knownIn a ≡ knownIn l → pastIn a ≡ pastIn l
     → b ≡ putPart a 6 8 (p .last) → c ≡ putPart b 22 136 (p .table) → d ≡ putPart c 158 128 (p .stamps)
     → e ≡ putPart d 286 128 (p .words) → m ≡ putPart e 414 128 (p .log)
     → Loaded l p m
-unfolding knownIn
-loads p l a b c d e m hl h l1 l2 l3 l4 l5 ea ka eb ec ed ee em =
-    let hb : 543 ≤ length b = rw (eb, length-back a 6 8 (p .last) (omega arith) l1) h in
-    let hc : 543 ≤ length c = rw (ec, length-back b 22 136 (p .table) (omega arith) l2) hb in
-    let hd : 543 ≤ length d = rw (ed, length-back c 158 128 (p .stamps) (omega arith) l3) hc in
-    let he : 543 ≤ length e = rw (ee, length-back d 286 128 (p .words) (omega arith) l4) hd in
-    let known : part m 14 8 ≡ part a 14 8
-    = rw (
-      em,
-      part-other e 414 128 (p .log) (omega arith) l5 14 8 refl,
-      ee,
-      part-other d 286 128 (p .words) (omega arith) l4 14 8 refl,
-      ed,
-      part-other c 158 128 (p .stamps) (omega arith) l3 14 8 refl,
-      ec,
-      part-other b 22 136 (p .table) (omega arith) l2 14 8 refl,
-      eb,
-    )
-    (part-other a 6 8 (p .last) (omega arith) l1 14 8 refl)
-    in (
+loads p l a b c d e m hl h l1 l2 l3 l4 l5 ea ka pa eb ec ed ee em =
+    let rb = rest a b (p .last) 6 8 h l1 (omega arith) refl eb in
+    let rc = rest b c (p .table) 22 136 (rb .0) l2 (omega arith) refl ec in
+    let rd = rest c d (p .stamps) 158 128 (rc .0) l3 (omega arith) refl ed in
+    let re = rest d e (p .words) 286 128 (rd .0) l4 (omega arith) refl ee in
+    let rm = rest e m (p .log) 414 128 (re .0) l5 (omega arith) refl em in (
       rw (
         le-leb 543 (length l) hl,
         em,
-        load-log e (p .log) he l5,
+        load-log e (p .log) (re .0) l5,
         ee,
-        load-words d (p .words) hd l4,
+        load-words d (p .words) (rd .0) l4,
         ed,
-        load-stamps c (p .stamps) hc l3,
+        load-stamps c (p .stamps) (rc .0) l3,
         ec,
-        load-table b (p .table) hb l2,
+        load-table b (p .table) (rb .0) l2,
         eb,
         load-last a (p .last) h l1,
         ea,
       ),
-      known ∙ ka,
+      (rm .1 ∙ re .1 ∙ rd .1 ∙ rc .1 ∙ rb .1 ∙ ka, rm .2 ∙ re .2 ∙ rd .2 ∙ rc .2 ∙ rb .2 ∙ pa),
     )
 
 pub too-short : (p : Post) (l : List ℕ) → length l < 543 → Loaded l p l
-too-short p l h = (rw (lt-leb 543 (length l) h), refl)
+too-short p l h = (rw (lt-leb 543 (length l) h), (refl, refl))

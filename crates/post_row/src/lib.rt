@@ -10,13 +10,14 @@ ghost use mathlib.Core.Path.{_≡_};
 ghost use mathlib.Core.List.{map};
 ghost use Prim.Native.Nat.{_≤_};
 ghost use lib.ListN.{length};
-ghost use Rattle.row.specs.Rows.{postIn, knownIn};
+ghost use Rattle.row.specs.Rows.{postIn, knownIn, pastIn};
 ghost use Rattle.post_row.specs.Records.{byteOf, withNumbers, loadedIn, recordIn};
 
 // The record in the row; what the row knows to be logged stays.
 pub fn load(row: &mut [u16], p: Post)
     ensures { λ _. ⌜ postIn (now (row .exit)) ≡ loadedIn (now (row .entry)) p ⌝ }
     ensures known { λ _. ⌜ knownIn (now (row .exit)) ≡ knownIn (now (row .entry)) ⌝ }
+    ensures past { λ _. ⌜ pastIn (now (row .exit)) ≡ pastIn (now (row .entry)) ⌝ }
 {
     if row.len() < row::LENGTH {
         return;
@@ -33,6 +34,7 @@ fn load_numbers(row: &mut [u16], p: Post)
     requires { do ⌜ 543 ≤ (← ⟦row.len()⟧) ⌝ }
     ensures { λ _. ⌜ postIn (now (row .exit)) ≡ withNumbers (postIn (now (row .entry))) p ⌝ }
     ensures known { λ _. ⌜ knownIn (now (row .exit)) ≡ knownIn (now (row .entry)) ⌝ }
+    ensures past { λ _. ⌜ pastIn (now (row .exit)) ≡ pastIn (now (row .entry)) ⌝ }
 {
     let numbers = [
         p.lane as u16,

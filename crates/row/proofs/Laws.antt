@@ -12,7 +12,7 @@ use Rattle.cells.specs.Tables.{entryPlace, withStamp, orderPlace}
 use Rattle.post.specs.declared.Post.{Post}
 use Rattle.post.specs.Record.{withClock, withOrders, withLog}
 use Rattle.post.specs.Taking.{kept, ticked}
-use Rattle.row.specs.Rows.{part, putIn, postIn, knownIn, withTable, tickedRow}
+use Rattle.row.specs.Rows.{part, putIn, postIn, knownIn, pastIn, withTable, tickedRow}
 
 -- ---- one law over an offset and a length
 
@@ -142,18 +142,6 @@ put-known l i v =
 
 -- ---- the parts of a step
 
-pub table-put : (l m : List ℕ) (place lane serial stamp : ℕ) → m ≡ putIn l 22 136 place stamp → place ≡ entryPlace lane serial
-    → postIn m ≡ withTable (postIn l) (withStamp (postIn l .table) lane serial stamp)
-unfolding withStamp
-table-put l m place lane serial stamp e q = rw (e, q) (put-table l (entryPlace lane serial) stamp)
-
-pub keep-is : (l a b m : List ℕ) (place lane serial stamp word : ℕ) → place ≡ orderPlace lane serial → a ≡ putIn l 6 8 lane serial
-    → b ≡ putIn a 158 128 place stamp → m ≡ putIn b 286 128 place word
-    → postIn m ≡ kept (postIn l) lane serial stamp word
-unfolding kept
-keep-is l a b m place lane serial stamp word q ea eb em =
-    rw (em, put-words b place word, eb, put-stamps a place stamp, ea, put-last l lane serial, q)
-
 pub tick-row : (l a b m : List ℕ) (lane place serial clock : ℕ) → lane ≡ postIn l .lane → place ≡ entryPlace lane serial → a ≡ set l 3 clock → b ≡ set a 4 serial
     → m ≡ putIn b 22 136 place clock → m ≡ tickedRow l serial clock
 tick-row l a b m lane place serial clock q e ea eb em = rw (em, eb, ea, e, q)
@@ -165,7 +153,7 @@ tick-post l m serial clock h e =
     let ha : 543 ≤ length a = rw length-set h in
     rw (e, put-table (set a 4 serial) (entryPlace (postIn l .lane) serial) clock, put-serial a serial ha, put-clock l clock h)
 
--- what is known stays where another part is written
+-- what is known stays where another part is written, and what is past the record where the record is
 pub same-known : (l m : List ℕ) (a n i v : ℕ) → apart a n 14 8 ≡ true → m ≡ putIn l a n i v → knownIn m ≡ knownIn l
 unfolding knownIn
 same-known l m a n i v h e = rw e (part-apart l a n i v 14 8 h)
@@ -174,13 +162,38 @@ pub same-known-cell : (l m : List ℕ) (k v : ℕ) → apart k 1 14 8 ≡ true �
 unfolding knownIn putIn
 same-known-cell l m k v h z e = rw (e, z) (part-apart l k 1 0 v 14 8 h)
 
-pub known-put : (l m : List ℕ) (i v : ℕ) → m ≡ putIn l 14 8 i v → (postIn m ≡ postIn l) × (knownIn m ≡ set (knownIn l) i v)
+pub same-past-cell : (l m : List ℕ) (k v : ℕ) → k < 543 → m ≡ set l k v → pastIn m ≡ pastIn l
+unfolding pastIn
+same-past-cell l m k v h e = rw (e, drop-set-lt)
+
+pub same-past : (l m : List ℕ) (a n i v : ℕ) → a + n ≤ 543 → m ≡ putIn l a n i v → pastIn m ≡ pastIn l
+unfolding putIn
+same-past l m a n i v h e = go (ltb i n) refl
+  where
+    go : (t : Bool) → ltb i n ≡ t → pastIn m ≡ pastIn l
+    go true q = same-past-cell l m (a + i) v (omega (arith, ltb-true i n q)) (rw q at e)
+    go false q = rw (e, q)
+
+pub known-put : (l m : List ℕ) (i v : ℕ) → m ≡ putIn l 14 8 i v
+    → (postIn m ≡ postIn l) × ((knownIn m ≡ set (knownIn l) i v) × (pastIn m ≡ pastIn l))
 unfolding knownIn
-known-put l m i v e = (rw e (put-known l i v), rw e (part-put l 14 8 i v))
+known-put l m i v e = (rw e (put-known l i v), (rw e (part-put l 14 8 i v), same-past l m 14 8 i v (omega arith) e))
 
 pub log-put : (l m : List ℕ) (i v : ℕ) → m ≡ putIn l 414 128 i v
-    → (postIn m ≡ withLog (postIn l) (set (postIn l .log) i v) (postIn l .logged)) × (knownIn m ≡ knownIn l)
-log-put l m i v e = (rw e (put-log l i v), same-known l m 414 128 i v refl e)
+    → (postIn m ≡ withLog (postIn l) (set (postIn l .log) i v) (postIn l .logged)) × ((knownIn m ≡ knownIn l) × (pastIn m ≡ pastIn l))
+log-put l m i v e = (rw e (put-log l i v), (same-known l m 414 128 i v refl e, same-past l m 414 128 i v (omega arith) e))
+
+pub keep-is : (l a b m : List ℕ) (place lane serial stamp word : ℕ) → place ≡ orderPlace lane serial → a ≡ putIn l 6 8 lane serial
+    → b ≡ putIn a 158 128 place stamp → m ≡ putIn b 286 128 place word
+    → (postIn m ≡ kept (postIn l) lane serial stamp word) × ((knownIn m ≡ knownIn l) × (pastIn m ≡ pastIn l))
+unfolding kept
+keep-is l a b m place lane serial stamp word q ea eb em = (
+  rw (em, put-words b place word, eb, put-stamps a place stamp, ea, put-last l lane serial, q),
+  (
+    same-known b m 286 128 place word refl em ∙ same-known a b 158 128 place stamp refl eb ∙ same-known l a 6 8 lane serial refl ea,
+    same-past b m 286 128 place word (omega arith) em ∙ same-past a b 158 128 place stamp (omega arith) eb ∙ same-past l a 6 8 lane serial (omega arith) ea,
+  ),
+)
 
 pub tick-known : (l m : List ℕ) (serial clock : ℕ) → m ≡ tickedRow l serial clock → knownIn m ≡ knownIn l
 tick-known l m serial clock e =
@@ -188,6 +201,12 @@ tick-known l m serial clock e =
     ∙ same-known-cell (set l 3 clock) (set (set l 3 clock) 4 serial) 4 serial refl refl refl
     ∙ same-known-cell l (set l 3 clock) 3 clock refl refl refl
 
+pub tick-past : (l m : List ℕ) (serial clock : ℕ) → m ≡ tickedRow l serial clock → pastIn m ≡ pastIn l
+tick-past l m serial clock e =
+    same-past (set (set l 3 clock) 4 serial) m 22 136 (entryPlace (postIn l .lane) serial) clock (omega arith) e
+    ∙ same-past-cell (set l 3 clock) (set (set l 3 clock) 4 serial) 4 serial (omega arith) refl
+    ∙ same-past-cell l (set l 3 clock) 3 clock (omega arith) refl
+
 pub logged-put : (l m : List ℕ) (v : ℕ) → 543 ≤ length l → m ≡ set l 5 v
-    → (postIn m ≡ withLog (postIn l) (postIn l .log) v) × (knownIn m ≡ knownIn l)
-logged-put l m v h e = (rw e (put-logged l v h), same-known-cell l m 5 v refl refl e)
+    → (postIn m ≡ withLog (postIn l) (postIn l .log) v) × (knownIn m ≡ knownIn l) × (pastIn m ≡ pastIn l)
+logged-put l m v h e = (rw e (put-logged l v h), same-known-cell l m 5 v refl refl e, same-past-cell l m 5 v (omega arith) e)

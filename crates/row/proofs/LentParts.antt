@@ -9,7 +9,7 @@ use borrow.Author.Tests.{leb-true}
 use lib.Dec.{leb}
 use lib.ListN.{length, getD, set, take, drop, length-take, length-drop, length-append, take-append-drop}
 use lib.Seq.{take-suc, take-suc-set, take-all, length-take-le, take-at, drop-at, take-append-le, drop-append-le, drop-append-add, drop-drop}
-use Rattle.row.specs.Rows.{part}
+use Rattle.row.specs.Rows.{part, pastIn}
 use Rattle.row.proofs.Laws.{apart, part-get}
 
 -- the list with other n elements from a on
@@ -40,9 +40,9 @@ module _ (s : List ℕ) (a n : ℕ) (ys : List ℕ) (h : a + n ≤ length s) (l 
   unfolding putPart
   part-before b m k = before b m (ys ++ drop n (drop a s)) k ∙ sym (before b m (drop a s) k) ∙ ap (λ (x : List ℕ). part x b m) (take-append-drop a s)
 
-  pub part-after : (b m : ℕ) → a + n ≤ b → part (putPart s a n ys) b m ≡ part s b m
-  unfolding part putPart
-  part-after b m k =
+  after : (b : ℕ) → a + n ≤ b → drop b (putPart s a n ys) ≡ drop b s
+  unfolding putPart
+  after b k =
       let c : ℕ = b - (a + n) in
       let r : List ℕ = ys ++ drop n (drop a s) in
       let e : b ≡ length (take a s) + (n + c) = omega (arith, front) in
@@ -51,7 +51,15 @@ module _ (s : List ℕ) (a n : ℕ) (ys : List ℕ) (h : a + n ≤ length s) (l 
       let x : drop b (take a s ++ r) ≡ drop (n + c) r = ap (λ (i : ℕ). drop i (take a s ++ r)) e ∙ drop-append-add (take a s) r (n + c) in
       let y : drop (n + c) r ≡ drop c (drop n (drop a s)) = ap (λ (i : ℕ). drop i r) f ∙ drop-append-add ys (drop n (drop a s)) c in
       let z : drop c (drop n (drop a s)) ≡ drop b s = drop-drop c n (drop a s) ∙ drop-drop (n + c) a s ∙ ap (λ (i : ℕ). drop i s) g in
-      ap (take m) (x ∙ y ∙ z)
+      x ∙ y ∙ z
+
+  pub part-after : (b m : ℕ) → a + n ≤ b → part (putPart s a n ys) b m ≡ part s b m
+  unfolding part
+  part-after b m k = ap (take m) (after b k)
+
+  pub past-other : a + n ≤ 543 → pastIn (putPart s a n ys) ≡ pastIn s
+  unfolding pastIn
+  past-other k = after 543 k
 
   -- the m elements from b on, where they are apart from those that were written
   pub part-other : (b m : ℕ) → apart a n b m ≡ true → part (putPart s a n ys) b m ≡ part s b m

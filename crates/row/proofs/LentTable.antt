@@ -1,4 +1,4 @@
--- A row whose table was lent and written: the record with that table, and what is known as before. Assumes nothing.
+-- A row whose table was lent and written: the record with that table, and all else as before. Assumes nothing.
 use mathlib.Core.Path.{_≡_, refl}
 use mathlib.Core.Bool.{true}
 use mathlib.Core.List.{List, _++_}
@@ -6,9 +6,9 @@ use Prim.Native.Nat.{ℕ, _+_, _≤_}
 use native.Mathlib.Omega.{arith}
 use lib.ListN.{length, getD, take, drop}
 use Rattle.post.specs.declared.Post.{Post}
-use Rattle.row.specs.Rows.{part, postIn, knownIn, withTable}
+use Rattle.row.specs.Rows.{part, postIn, knownIn, pastIn, withTable}
 use Rattle.row.proofs.Laws.{apart}
-use Rattle.row.proofs.LentParts.{putPart, part-back, part-other, cell-other}
+use Rattle.row.proofs.LentParts.{putPart, part-back, part-other, cell-other, past-other}
 
 module _ (l t : List ℕ) (h : 543 ≤ length l) (k : length t ≡ 136) where
   wide : 22 + 136 ≤ length l
@@ -30,6 +30,6 @@ module _ (l t : List ℕ) (h : 543 ≤ length l) (k : length t ≡ 136) where
   table-known = other 14 8 refl
 
 pub table-lent : (l m t : List ℕ) → 543 ≤ length l → length t ≡ 136 → m ≡ take 22 l ++ (t ++ drop 136 (drop 22 l))
-    → (postIn m ≡ withTable (postIn l) t) × (knownIn m ≡ knownIn l)
+    → (postIn m ≡ withTable (postIn l) t) × (knownIn m ≡ knownIn l) × (pastIn m ≡ pastIn l)
 unfolding putPart
-table-lent l m t h k e = rw e (table-post l t h k, table-known l t h k)
+table-lent l m t h k e = rw e (table-post l t h k, table-known l t h k, past-other l 22 136 t (wide l t h k) k (omega arith))

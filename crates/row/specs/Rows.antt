@@ -37,6 +37,10 @@ postIn row = record {
 unfoldable pub knownIn : List ℕ → List ℕ
 knownIn row = part row 14 8
 
+-- the cells past the record, which no step touches: with the record and what is known they are the whole row (`row-told`)
+unfoldable pub pastIn : List ℕ → List ℕ
+pastIn row = drop 543 row
+
 -- the row with another own serial and clock, and with the clock as the post's own entry of the table
 abbrev pub tickedRow : List ℕ → ℕ → ℕ → List ℕ
 tickedRow row serial clock = putIn (set (set row 3 clock) 4 serial) 22 136 (entryPlace (postIn row .lane) serial) clock

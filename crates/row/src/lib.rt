@@ -6,10 +6,10 @@ use frame::Serial;
 use frame::Stamp;
 ghost use mathlib.Core.Path.{_≡_};
 ghost use lib.ListN.{getD, set};
-ghost use Rattle.cells.specs.Tables.{entryPlace, stampUnder, withStamp, orderPlace};
+ghost use Rattle.cells.specs.Tables.{entryPlace, orderPlace};
 ghost use Rattle.post.specs.Record.{lastOf, withLog};
 ghost use Rattle.post.specs.Taking.{kept};
-ghost use Rattle.row.specs.Rows.{part, putIn, postIn, knownIn, withTable, tickedRow};
+ghost use Rattle.row.specs.Rows.{part, putIn, postIn, knownIn, pastIn, tickedRow};
 
 // A serial as a cell holds it: in a row that somebody made up it may be any number of 16 bits.
 pub struct SerialCell(pub u16);
@@ -134,12 +134,6 @@ pub fn logged(row: &[u16]) -> u16
     get(row, LOGGED)
 }
 
-pub fn put_logged(row: &mut [u16], logged: u16)
-    ensures { λ _. ⌜ now (row .exit) ≡ set (now (row .entry)) 5 logged ⌝ }
-{
-    put(row, LOGGED, logged)
-}
-
 // The place that stands k-th in the log.
 pub fn log_at(row: &[u16], k: usize) -> u16
     ensures { λ r. ⌜ r ≡ getD (postIn (now (row .entry)) .log) k 0 ⌝ }
@@ -150,6 +144,7 @@ pub fn log_at(row: &[u16], k: usize) -> u16
 pub fn put_log_at(row: &mut [u16], k: usize, place: u16)
     ensures { λ _. ⌜ postIn (now (row .exit)) ≡ withLog (postIn (now (row .entry))) (set (postIn (now (row .entry)) .log) k place) (postIn (now (row .entry)) .logged) ⌝ }
     ensures known { λ _. ⌜ knownIn (now (row .exit)) ≡ knownIn (now (row .entry)) ⌝ }
+    ensures past { λ _. ⌜ pastIn (now (row .exit)) ≡ pastIn (now (row .entry)) ⌝ }
 {
     put_in(row, LOG, ORDERS, k, place)
 }
@@ -164,6 +159,7 @@ pub fn known_of(row: &[u16], lane: u16) -> SerialCell
 pub fn put_known(row: &mut [u16], lane: u16, serial: SerialCell)
     ensures { λ _. ⌜ postIn (now (row .exit)) ≡ postIn (now (row .entry)) ⌝ }
     ensures known { λ _. ⌜ knownIn (now (row .exit)) ≡ set (knownIn (now (row .entry))) lane (serial .0) ⌝ }
+    ensures past { λ _. ⌜ pastIn (now (row .exit)) ≡ pastIn (now (row .entry)) ⌝ }
 {
     put_in(row, KNOWN, LANES, lane as usize, serial.0)
 }
@@ -183,7 +179,7 @@ pub fn stamp_at(row: &[u16], place: usize) -> Stamp
 }
 
 // Where entry (lane, serial) stands in the newest-stamp table: past its end for a serial over 16.
-pub fn entry_place(lane: u16, serial: SerialCell) -> usize
+fn entry_place(lane: u16, serial: SerialCell) -> usize
     ensures { λ r. ⌜ r ≡ entryPlace lane (serial .0) ⌝ }
 {
     if serial.0 <= LAST_SERIAL {
@@ -191,20 +187,6 @@ pub fn entry_place(lane: u16, serial: SerialCell) -> usize
     } else {
         cells::TABLE
     }
-}
-
-// The stamp at (lane, serial) of the newest-stamp table.
-pub fn stamp_under(row: &[u16], lane: u16, serial: SerialCell) -> Stamp
-    ensures { λ r. ⌜ r .0 ≡ stampUnder (postIn (now (row .entry)) .table) lane (serial .0) ⌝ }
-{
-    Stamp(get_in(row, TABLE, ENTRIES, entry_place(lane, serial)))
-}
-
-pub fn put_stamp_under(row: &mut [u16], lane: u16, serial: SerialCell, stamp: Stamp)
-    ensures { λ _. ⌜ postIn (now (row .exit)) ≡ withTable (postIn (now (row .entry))) (withStamp (postIn (now (row .entry)) .table) lane (serial .0) (stamp .0)) ⌝ }
-    ensures known { λ _. ⌜ knownIn (now (row .exit)) ≡ knownIn (now (row .entry)) ⌝ }
-{
-    put_in(row, TABLE, ENTRIES, entry_place(lane, serial), stamp.0)
 }
 
 // Where order (lane, serial) stands among the orders taken: past their end for a serial other than 1 to 16.
@@ -225,6 +207,7 @@ pub fn order_place(lane: u8, serial: SerialCell) -> usize
 pub fn keep(row: &mut [u16], lane: u8, serial: Serial, stamp: Stamp, word: u16)
     ensures { λ _. ⌜ postIn (now (row .exit)) ≡ kept (postIn (now (row .entry))) lane (serial .0) (stamp .0) word ⌝ }
     ensures known { λ _. ⌜ knownIn (now (row .exit)) ≡ knownIn (now (row .entry)) ⌝ }
+    ensures past { λ _. ⌜ pastIn (now (row .exit)) ≡ pastIn (now (row .entry)) ⌝ }
 {
     let place = order_place(lane, SerialCell(serial.0 as u16));
     put_in(row, LAST, LANES, lane as usize, serial.0 as u16);

@@ -32,6 +32,9 @@ struct Ran {
 // Bytes of the output: every printout fits.
 pub const OUTPUT: usize = 131072;
 
+// What a state holds before a fresh yard is laid into every cell of it. A number of two equal bytes would cost a call of memset.
+const UNWRITTEN: u16 = 1;
+
 // Runs a script: the number of bytes printed, or 0 where the output has not 131,072 bytes and all stays as it was. An air
 // of another length than 65,536 bytes is what the steps meet (13).
 #[no_mangle]
@@ -47,7 +50,7 @@ pub extern "C" fn drift_run_script(script: &[u8], air: &mut [u8], output: &mut [
     if verdict.number != 0 {
         return printout::put_bad(output, 0, verdict.line, verdict.number);
     }
-    let mut state = [0u16; yard::LENGTH];
+    let mut state = [UNWRITTEN; yard::LENGTH];
     print_good(script, &mut state, air, output)
 }
 

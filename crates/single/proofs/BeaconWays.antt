@@ -9,6 +9,8 @@ use lib.ListN.{length}
 use borrow.Author.Tests.{ne-eqb, eqb-true, eqb-false}
 use Rattle.frame.specs.Layout.{noFrame}
 use Rattle.frame.proofs.Laws.{not-32, is-32}
+use Rattle.air.specs.Air.{framesWith}
+use Rattle.air.proofs.Buffers.{buffer-filled, none-kept}
 use Rattle.post.specs.declared.Post.{Post}
 use Rattle.post.specs.Newest.{beaconFrame}
 use Rattle.judge.specs.Judgement.{badRecord, recordRefusal}
@@ -16,10 +18,9 @@ use Rattle.steps.specs.Refusals.{beaconRefusal}
 use Rattle.steps.specs.Steps.{beaconStep}
 use Rattle.steps.specs.declared.BeaconAnswer as beacons
 use Rattle.steps.specs.declared.Beaconed.{Beaconed}
-use Rattle.single.specs.Buffer.{broadcastInto}
 use Rattle.single.specs.Single.{beaconRefusalSingly, beaconSingly, beaconBuffer}
 use Rattle.single.proofs.Broadcasts.{beacon-sendable}
-use Rattle.single.proofs.Judged.{record-bad, record-good, written-whole}
+use Rattle.single.proofs.Judged.{record-bad, record-good}
 
 beacon-refuses : (p : Post) (buffer : List ℕ) (n : ℕ) → beaconRefusalSingly p buffer ≡ n → (n ≡ 0 → ⊥)
     → (beacons.the-variants.Refused n ≡ beaconSingly p buffer) × (buffer ≡ beaconBuffer p buffer)
@@ -44,7 +45,7 @@ beacon-judged p buffer n l e z = is-32 buffer (cond (badRecord p) 12 (beaconRefu
 
 -- the step runs, and the beacon goes into the buffer
 pub beacon-sends : (p : Post) (buffer : List ℕ) (n : ℕ) (d : Beaconed) (exit : List ℕ) → length buffer ≡ 32 → n ≡ recordRefusal p → n ≡ 0
-    → d ≡ beaconStep p → exit ≡ broadcastInto buffer (d .frame)
+    → d ≡ beaconStep p → exit ≡ framesWith buffer 0 (d .frame)
     → (d .answer ≡ beaconSingly p buffer) × (exit ≡ beaconBuffer p buffer)
 unfolding beaconSingly beaconBuffer beaconStep
 beacon-sends p buffer n d exit l e z ed ex = go (eqb (beaconRefusal p) 0) refl
@@ -54,8 +55,8 @@ beacon-sends p buffer n d exit l e z ed ex = go (eqb (beaconRefusal p) 0) refl
         let o : beaconRefusal p ≡ 0 = eqb-true (beaconRefusal p) 0 b in
         let r : beaconRefusalSingly p buffer ≡ 0 = beacon-judged p buffer n l e z ∙ o in
         let s : d ≡ record { answer = beacons.the-variants.Sent; frame = beaconFrame p } = ed ∙ rw b in
-        (rw (r, s), rw r (ex ∙ rw s (written-whole buffer (beaconFrame p) l (beacon-sendable p o))))
+        (rw (r, s), rw r (ex ∙ rw s (buffer-filled buffer (beaconFrame p) l (beacon-sendable p o))))
     go false b =
         let s : d ≡ record { answer = beacons.the-variants.Refused (beaconRefusal p); frame = noFrame } = ed ∙ rw b in
         let r = beacon-refuses p buffer (beaconRefusal p) (beacon-judged p buffer n l e z) (eqb-false (beaconRefusal p) 0 b) in
-        (rw s (r .0), ex ∙ rw s (r .1))
+        (rw s (r .0), ex ∙ rw s (none-kept buffer 0 noFrame refl) ∙ r .1)

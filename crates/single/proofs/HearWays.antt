@@ -13,6 +13,8 @@ use Rattle.frame.specs.Layout.{frameOf, bytesOf, noFrame}
 use Rattle.frame.specs.Refusals.{readRefusal, frameRefusal}
 use Rattle.frame.specs.ReadWrite.{readOf}
 use Rattle.frame.proofs.Laws.{not-32, is-32, readable}
+use Rattle.air.specs.Air.{framesWith}
+use Rattle.air.proofs.Buffers.{buffer-filled, none-kept}
 use Rattle.post.specs.declared.Post.{Post}
 use Rattle.post.specs.Record.{lastOf}
 use Rattle.judge.specs.Judgement.{badRecord, recordRefusal}
@@ -20,11 +22,10 @@ use Rattle.steps.specs.Refusals.{isNext, hearRefusal}
 use Rattle.steps.specs.Steps.{hearTaken, hearOther, hearStep}
 use Rattle.steps.specs.declared.HearAnswer as hearings
 use Rattle.steps.specs.Steps as heard
-use Rattle.single.specs.Buffer.{broadcastInto}
 use Rattle.single.specs.Single.{hearRefusalSingly, hearSingly, hearBuffer}
 use Rattle.single.specs.declared.Heard.{Heard}
 use Rattle.single.proofs.Broadcasts.{taken-accepted}
-use Rattle.single.proofs.Judged.{record-bad, record-good, written-whole}
+use Rattle.single.proofs.Judged.{record-bad, record-good}
 
 -- what an entry of `hear` promises of its result and of the buffer
 abbrev pub HearIs : Post → List ℕ → List ℕ → Heard → List ℕ → Type 0
@@ -97,7 +98,7 @@ hear-answers p bytes buffer j = go (eqb (hearRefusal p (frameOf bytes)) 0) refl
 
 -- what the step broadcasts goes into the buffer
 pub hear-sends : (p : Post) (bytes buffer : List ℕ) (f : Frame) (d : heard.Heard) (exit : List ℕ) → Runs p bytes buffer f → length buffer ≡ 32
-    → d ≡ hearStep p f → exit ≡ broadcastInto buffer (d .frame)
+    → d ≡ hearStep p f → exit ≡ framesWith buffer 0 (d .frame)
     → HearIs p bytes buffer (record { answer = d .answer; post = d .post }) exit
 unfolding hearBuffer hearStep hearOther hearTaken
 hear-sends p bytes buffer f d exit r l ed ex =
@@ -112,7 +113,7 @@ hear-sends p bytes buffer f d exit r l ed ex =
     go : (b : Bool) → eqb (hearRefusal p g) 0 ≡ b → (t : Bool) → isNext g (lastOf p (g .lane)) ≡ t
         → exit ≡ cond (eqb (hearRefusal p g) 0 && isNext g (lastOf p (g .lane))) (bytesOf (hearTaken p g .frame)) buffer
     go true b true t =
-        let w = written-whole buffer (hearTaken p g .frame) l (taken-accepted p g (eqb-true (hearRefusal p g) 0 b) t (r .accepted)) in
+        let w = buffer-filled buffer (hearTaken p g .frame) l (taken-accepted p g (eqb-true (hearRefusal p g) 0 b) t (r .accepted)) in
         rw (b, t) (ex ∙ rw (e, b, t) w)
-    go true b false t = rw (b, t) (ex ∙ rw (e, b, t))
-    go false b t s = rw b (ex ∙ rw (e, b))
+    go true b false t = rw (b, t) (ex ∙ rw (e, b, t) (none-kept buffer 0 noFrame refl))
+    go false b t s = rw b (ex ∙ rw (e, b) (none-kept buffer 0 noFrame refl))

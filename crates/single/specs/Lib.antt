@@ -1,3 +1,2 @@
 pub mod Single
-pub mod Buffer
 pub mod Lasting

@@ -1,6 +1,6 @@
 // A post run singly: the entries for hosts and firmware. Each judges everything that it is handed, the record too (12),
 // and a refusal leaves post and buffer as they were. The record is put into a row, the step runs there, and the row's record
-// is handed back. The contracts cite specs/Single.antt.
+// is handed back. With no broadcast the frame has kind 0, which is not written. The contracts cite specs/Single.antt.
 use frame::Frame;
 use post::Post;
 use steps::BeaconAnswer;
@@ -9,7 +9,6 @@ use steps::OrderAnswer;
 ghost use mathlib.Core.Path.{_≡_};
 ghost use Rattle.steps.specs.Answers.{orderNumber, hearNumber, beaconNumber};
 ghost use Rattle.steps.specs.Values.{orderSerial, orderStamp, orderCount, hearCount};
-ghost use Rattle.single.specs.Buffer.{broadcastInto};
 ghost use Rattle.single.specs.Single.{freshSingly, orderRefusalSingly, orderSingly, orderSerialSingly, orderStampSingly, orderCountSingly, orderBuffer, hearRefusalSingly, hearSingly, hearCountSingly, hearBuffer, beaconRefusalSingly, beaconSingly, beaconBuffer};
 
 // A fresh post and 0, or the refusal (12, 21) and a record of zeros.
@@ -80,7 +79,7 @@ pub fn order(p: Post, word: u16, buffer: &mut [u8]) -> Ordered
     let done = steps::order(&mut row, word);
     let answer = done.answer;
     let sent = done.frame;
-    broadcast(sent, buffer);
+    air::write(buffer, 0, sent);
     let post = post_row::store(&row);
     Ordered {
         answer: answer,
@@ -121,7 +120,7 @@ pub fn hear(p: Post, bytes: &[u8], buffer: &mut [u8]) -> Heard
     let done = steps::hear(&mut row, heard);
     let answer = done.answer;
     let passed_on = done.frame;
-    broadcast(passed_on, buffer);
+    air::write(buffer, 0, passed_on);
     let post = post_row::store(&row);
     Heard {
         answer: answer,
@@ -147,15 +146,6 @@ pub fn beacon(p: Post, buffer: &mut [u8]) -> BeaconAnswer
     let done = steps::beacon(&row);
     let answer = done.answer;
     let frame = done.frame;
-    broadcast(frame, buffer);
+    air::write(buffer, 0, frame);
     answer
-}
-
-// A broadcast goes into the buffer, if there is one: with none the buffer keeps its bytes.
-fn broadcast(sent: Frame, buffer: &mut [u8])
-    ensures { λ _. ⌜ now (buffer .exit) ≡ broadcastInto (now (buffer .entry)) sent ⌝ }
-{
-    if sent.kind != 0 {
-        sent.write(buffer);
-    }
 }

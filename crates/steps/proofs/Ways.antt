@@ -15,9 +15,9 @@ use Rattle.cells.specs.Sets.{hasLane}
 use Rattle.cells.specs.Tables.{orderPlace}
 use Rattle.post.specs.declared.Post.{Post}
 use Rattle.post.specs.Record.{lastOf, isSource}
-use Rattle.post.specs.Newest.{raisedBelow, newestEntries}
+use Rattle.post.specs.Newest.{raisedBelow, newestEntries, orderFrame}
 use Rattle.post.specs.Taking.{kept, ticked, ownTaken, raisedPost, taken}
-use Rattle.row.specs.Rows.{part, postIn, knownIn, withTable}
+use Rattle.row.specs.Rows.{part, postIn, knownIn, pastIn, withTable}
 use Rattle.row.proofs.LentTable.{table-lent}
 use Rattle.deliver.specs.Known.{KnownDelivery, deliveredFrom}
 use Rattle.deliver.specs.OnRows.{deliveredRow}
@@ -32,6 +32,7 @@ use Rattle.steps.specs.declared.Beaconed.{Beaconed}
 use Rattle.steps.specs.Refusals.{notInYard, orderRefusal, isNext, clockPasses, ownBroadcast, strange, notAbove, beyondOwn, hearRefusal, beaconRefusal}
 use Rattle.steps.specs.Steps.{orderSent, orderStep, hearTaken, otherAnswer, hearOther, hearStep, beaconStep}
 use Rattle.steps.specs.Knowing.{Stepped, stepped, ordersBy, hearTook, passedAnswer, hearsBy}
+use Rattle.steps.specs.Loops.{takenRaised}
 use Rattle.steps.specs.Answers.{beaconNumber}
 use Rattle.steps.proofs.AnswerLaws.{OrderAnswers, order-answers, HearAnswers, hear-answers, beacon-number}
 use Rattle.steps.proofs.Passed.{order-passed, hear-passed}
@@ -41,44 +42,50 @@ use Rattle.steps.proofs.Passed.{order-passed, hear-passed}
 -- the table that was lent is the row's
 pub raised-row : (l m t : List ℕ) (entries : List Entry) → 543 ≤ length l → length t ≡ length (part l 22 136) → m ≡ take 22 l ++ (t ++ drop 136 (drop 22 l))
     → t ≡ raisedBelow (part l 22 136) entries 8
-    → (postIn m ≡ withTable (postIn l) (raisedBelow (part l 22 136) entries 8)) × (knownIn m ≡ knownIn l)
+    → (postIn m ≡ withTable (postIn l) (raisedBelow (part l 22 136) entries 8)) × ((knownIn m ≡ knownIn l) × (pastIn m ≡ pastIn l))
 unfolding part
 raised-row l m t entries h k e er =
     let long : length t ≡ 136 = k ∙ simp (length-take, length-drop) (omega arith) in
     let w = table-lent l m t h long e in
-    (w .0 ∙ ap (withTable (postIn l)) er, w .1)
+    (w .0 ∙ ap (withTable (postIn l)) er, (w .1, w .2))
 
 -- ---- part 3
 
-pub taken-lane : (p : Post) (f : Frame) → taken p f .lane ≡ p .lane
-unfolding taken ticked kept raisedPost
-taken-lane p f = go (isSource p (p .lane))
+-- on a row that part 1 has raised
+pub takes-after : (p : Post) (f : Frame) → taken p f ≡ takenRaised (withTable p (raisedBelow (p .table) (f .entries) 8)) f
+unfolding taken takenRaised raisedPost
+takes-after p f = refl
+
+own-lane : (p : Post) (f : Frame) → takenRaised p f .lane ≡ p .lane
+unfolding takenRaised ticked kept
+own-lane p f = go (isSource p (p .lane))
   where
-    go : (b : Bool) → cond b (ticked (kept (raisedPost p f) (f .lane) (f .serial .0) (f .stamp .0) (f .word)) (p .serial .0) (max (p .clock .0) (f .stamp .0) + 1)) (kept (raisedPost p f) (f .lane) (f .serial .0) (f .stamp .0) (f .word)) .lane ≡ p .lane
+    go : (b : Bool) → cond b (ticked (kept p (f .lane) (f .serial .0) (f .stamp .0) (f .word)) (p .serial .0) (max (p .clock .0) (f .stamp .0) + 1)) (kept p (f .lane) (f .serial .0) (f .stamp .0) (f .word)) .lane ≡ p .lane
     go true = refl
     go false = refl
 
-pub takes-source : (p a b q : Post) (f : Frame) (t : Bool) (serial reached : ℕ) → t ≡ hasLane (p .sources) (p .lane) → t ≡ true
+pub taken-lane : (p : Post) (f : Frame) → taken p f .lane ≡ p .lane
+taken-lane p f = ap (λ (q : Post). q .lane) (takes-after p f) ∙ own-lane (withTable p (raisedBelow (p .table) (f .entries) 8)) f
+
+pub takes-source : (p b q : Post) (f : Frame) (t : Bool) (serial reached : ℕ) → t ≡ hasLane (p .sources) (p .lane) → t ≡ true
     → serial ≡ p .serial .0 → reached ≡ max (p .clock .0) (f .stamp .0)
-    → a ≡ withTable p (raisedBelow (p .table) (f .entries) 8) → b ≡ kept a (f .lane) (f .serial .0) (f .stamp .0) (f .word)
-    → q ≡ ticked b serial (reached + 1)
-    → q ≡ taken p f
-unfolding taken raisedPost
-takes-source p a b q f t serial reached et s es er ea eb eq = rw (eq, eb, ea, es, er, sym et ∙ s)
+    → b ≡ kept p (f .lane) (f .serial .0) (f .stamp .0) (f .word) → q ≡ ticked b serial (reached + 1)
+    → q ≡ takenRaised p f
+unfolding takenRaised
+takes-source p b q f t serial reached et s es er eb eq = rw (eq, eb, es, er, sym et ∙ s)
 
-pub takes-other : (p a q : Post) (f : Frame) (t : Bool) → t ≡ hasLane (p .sources) (p .lane) → t ≡ false
-    → a ≡ withTable p (raisedBelow (p .table) (f .entries) 8) → q ≡ kept a (f .lane) (f .serial .0) (f .stamp .0) (f .word)
-    → q ≡ taken p f
-unfolding taken raisedPost
-takes-other p a q f t et s ea eq = rw (eq, ea, sym et ∙ s)
+pub takes-other : (p q : Post) (f : Frame) (t : Bool) → t ≡ hasLane (p .sources) (p .lane) → t ≡ false
+    → q ≡ kept p (f .lane) (f .serial .0) (f .stamp .0) (f .word)
+    → q ≡ takenRaised p f
+unfolding takenRaised
+takes-other p q f t et s eq = rw (eq, sym et ∙ s)
 
-pub takes-frame : (p q : Post) (f : Frame) (lane : ℕ) (entries : List Entry) → lane ≡ p .lane → q ≡ taken p f → entries ≡ newestEntries (q .table)
+pub takes-frame : (p q : Post) (f : Frame) (lane : ℕ) (entries : List Entry) → lane ≡ p .lane → q ≡ takenRaised p f → entries ≡ newestEntries (q .table)
     → _≡_ {A = Frame}
     (record { kind = 1; sender = lane; lane = f .lane; serial = f .serial; stamp = f .stamp; word = f .word; entries = entries })
-    (hearTaken p f .frame)
-unfolding hearTaken
+    (orderFrame (takenRaised p f) (f .lane) (f .serial .0) (f .stamp .0) (f .word))
 takes-frame p q f lane entries el eq en =
-    let l : taken p f .lane ≡ p .lane = taken-lane p f in
+    let l : takenRaised p f .lane ≡ p .lane = own-lane p f in
     rw (en, eq, l, el)
 
 -- ---- 28: a loop that ends with the first that is found
@@ -134,12 +141,15 @@ can-pass p f r x q =
     let t : (isNext f (lastOf p (f .lane)) && isSource p (p .lane) && leb 65535 (max (p .clock .0) (f .stamp .0))) ≡ false = hear-passed p f r .1 in
     leb-false 65535 (max (p .clock .0) (f .stamp .0)) (rw (x, q) at t)
 
-pub can-take : (l : List ℕ) (f : Frame) (last : ℕ) (t : Bool) → hearRefusal (postIn l) f ≡ 0 → last ≡ lastOf (postIn l) (f .lane) → t ≡ isNext f last → t ≡ true
-    → CanTake l f
-can-take l f last t r el et s =
+-- on a row that part 1 has raised
+pub can-take : (l m : List ℕ) (f : Frame) (number last : ℕ) (t : Bool) → number ≡ hearRefusal (postIn l) f → number ≡ 0 → last ≡ lastOf (postIn l) (f .lane)
+    → t ≡ isNext f last → t ≡ true → postIn m ≡ withTable (postIn l) (raisedBelow (postIn l .table) (f .entries) 8) → 543 ≤ length m
+    → CanTake m f
+can-take l m f number last t en z el et s em h =
+    let r : hearRefusal (postIn l) f ≡ 0 = sym en ∙ z in
     let x : isNext f (lastOf (postIn l) (f .lane)) ≡ true = rw el at (sym et ∙ s) in
     let w = whole-row l f r in
-    (w .0, w .1, can-pass (postIn l) f r x)
+    (h, rw em (w .1), rw em (can-pass (postIn l) f r x))
 
 -- the sum that the clock of a source becomes
 pub fits : (p : Post) (f : Frame) (t : Bool) (lane sources clock reached : ℕ) → lane ≡ p .lane → sources ≡ p .sources → clock ≡ p .clock .0
@@ -246,16 +256,19 @@ hears l m n f g count a r eg em ek h ed ea =
     in
     rw (r, ← d, ea, eg)
 
-pub hear-takes : (l m n : List ℕ) (f g : Frame) (number last count : ℕ) (t : Bool) → number ≡ hearRefusal (postIn l) f → number ≡ 0
+pub hear-takes : (l k m n : List ℕ) (f g : Frame) (number last count : ℕ) (t : Bool) → number ≡ hearRefusal (postIn l) f → number ≡ 0
     → last ≡ lastOf (postIn l) (f .lane) → t ≡ isNext f last → t ≡ true
-    → g ≡ hearTaken (postIn l) f .frame → postIn m ≡ taken (postIn l) f → knownIn m ≡ knownIn l → 543 ≤ length m
+    → postIn k ≡ withTable (postIn l) (raisedBelow (postIn l .table) (f .entries) 8) → knownIn k ≡ knownIn l
+    → g ≡ orderFrame (takenRaised (postIn k) f) (f .lane) (f .serial .0) (f .stamp .0) (f .word) → postIn m ≡ takenRaised (postIn k) f
+    → knownIn m ≡ knownIn k → 543 ≤ length m
     → _≡_ {A = KnownDelivery} (record { post = postIn n; known = knownIn n; count = count }) (deliveredRow m)
     → stepped (hearings.the-variants.Taken count) n g ≡ hearsBy (knownIn l) (postIn l) f
-unfolding hearStep hearTook
-hear-takes l m n f g number last count t en z el et s eg em ek h ed =
+unfolding hearStep hearTaken hearTook
+hear-takes l k m n f g number last count t en z el et s ek kk eg em km h ed =
     let r : hearRefusal (postIn l) f ≡ 0 = sym en ∙ z in
     let x : isNext f (lastOf (postIn l) (f .lane)) ≡ true = rw el at (sym et ∙ s) in
-    hears l m n f g count _ r (rw (r, x, eg)) (rw x em) ek h ed (rw x)
+    let a : takenRaised (postIn k) f ≡ taken (postIn l) f = ap (λ (p : Post). takenRaised p f) ek ∙ sym (takes-after (postIn l) f) in
+    hears l m n f g count _ r (rw (r, x, eg, a)) (rw x (em ∙ a)) (km ∙ kk) h ed (rw x)
 
 pub hear-raises : (l m n : List ℕ) (f g : Frame) (number last count : ℕ) (t : Bool) (a : hearings.HearAnswer) → number ≡ hearRefusal (postIn l) f → number ≡ 0
     → last ≡ lastOf (postIn l) (f .lane) → t ≡ isNext f last → t ≡ false
@@ -347,19 +360,19 @@ beacon-stays p lane posts t g el ep et s eg =
     let y : not (hasLane (p .posts) (p .lane)) ≡ true = rw (el, ep) at (rw et at s) in
     rw (y, eg)
 
--- ---- the number and the values beside the whole answer
+-- ---- the number and the values beside the whole answer, and the cells past the record
 
-pub with-order-answers : (known : List ℕ) (p : Post) (word : ℕ) (a : orders.OrderAnswer) (m : List ℕ) (g : Frame) → stepped a m g ≡ ordersBy known p word
-    → (stepped a m g ≡ ordersBy known p word) × OrderAnswers known p word a
-with-order-answers known p word a m g e =
+pub with-order-answers : (known : List ℕ) (p : Post) (word : ℕ) (a : orders.OrderAnswer) (l m : List ℕ) (g : Frame) → stepped a m g ≡ ordersBy known p word → pastIn m ≡ pastIn l
+    → (stepped a m g ≡ ordersBy known p word) × ((pastIn m ≡ pastIn l) × OrderAnswers known p word a)
+with-order-answers known p word a l m g e past =
     let h : a ≡ ordersBy known p word .answer = ap (λ (s : Stepped orders.OrderAnswer). s .answer) e in
-    (e, rw h (order-answers known p word))
+    (e, (past, rw h (order-answers known p word)))
 
-pub with-hear-answers : (known : List ℕ) (p : Post) (f : Frame) (a : hearings.HearAnswer) (m : List ℕ) (g : Frame) → stepped a m g ≡ hearsBy known p f
-    → (stepped a m g ≡ hearsBy known p f) × HearAnswers known p f a
-with-hear-answers known p f a m g e =
+pub with-hear-answers : (known : List ℕ) (p : Post) (f : Frame) (a : hearings.HearAnswer) (l m : List ℕ) (g : Frame) → stepped a m g ≡ hearsBy known p f → pastIn m ≡ pastIn l
+    → (stepped a m g ≡ hearsBy known p f) × ((pastIn m ≡ pastIn l) × HearAnswers known p f a)
+with-hear-answers known p f a l m g e past =
     let h : a ≡ hearsBy known p f .answer = ap (λ (s : Stepped hearings.HearAnswer). s .answer) e in
-    (e, rw h (hear-answers known p f))
+    (e, (past, rw h (hear-answers known p f)))
 
 pub with-beacon-number : (p : Post) (r : Beaconed) → r ≡ beaconStep p → (r ≡ beaconStep p) × (beaconNumber (r .answer) ≡ beaconRefusal p)
 with-beacon-number p r e = (e, rw e (beacon-number p))

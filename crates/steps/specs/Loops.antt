@@ -1,4 +1,4 @@
--- What the loops have computed after n turns. For contracts of private functions; nobody has to believe it. Assumes nothing.
+-- What the loops have computed after n turns, and a hearing's part 3 alone. For contracts of private functions; nobody has to believe it. Assumes nothing.
 use Prim.Native.Nat.{ℕ, zero, suc, _+_, max}
 use mathlib.Core.Bool.{cond}
 use mathlib.Core.List.{List}
@@ -6,7 +6,11 @@ use lib.Dec.{eqb}
 use lib.ListN.{getD, set, replicate}
 use Rattle.frame.specs.Layout.{noEntry}
 use Rattle.frame.specs.declared.Entry.{Entry}
+use Rattle.frame.specs.declared.Frame.{Frame}
+use Rattle.post.specs.declared.Post.{Post}
+use Rattle.post.specs.Record.{isSource}
 use Rattle.post.specs.Newest.{newest}
+use Rattle.post.specs.Taking.{kept, ticked}
 
 -- the greatest of n stamps from place `first` on
 unfoldable pub greatestBelow : List ℕ → ℕ → ℕ → ℕ
@@ -22,3 +26,9 @@ lastBelow table first stamp (suc n) = max (lastBelow table first stamp n) (cond 
 unfoldable pub entriesBelow : List ℕ → ℕ → List Entry
 entriesBelow table zero = replicate 8 noEntry
 entriesBelow table (suc lane) = set (entriesBelow table lane) lane (newest table lane)
+
+-- `taken` of a post whose table the entries have raised
+unfoldable pub takenRaised : Post → Frame → Post
+takenRaised p f =
+    let q = kept p (f .lane) (f .serial .0) (f .stamp .0) (f .word) in
+    cond (isSource p (p .lane)) (ticked q (p .serial .0) (max (p .clock .0) (f .stamp .0) + 1)) q

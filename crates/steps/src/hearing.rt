@@ -16,11 +16,11 @@ ghost use Rattle.cells.specs.Sets.{hasLane};
 ghost use Rattle.cells.specs.Tables.{orderPlace};
 ghost use Rattle.frame.specs.Layout.{entryOf};
 ghost use Rattle.post.specs.Record.{isSource, lastOf};
-ghost use Rattle.post.specs.Newest.{raised, raisedBelow};
-ghost use Rattle.post.specs.Taking.{taken};
-ghost use Rattle.row.specs.Rows.{postIn, knownIn, withTable};
+ghost use Rattle.post.specs.Newest.{raised, raisedBelow, orderFrame};
+ghost use Rattle.row.specs.Rows.{postIn, knownIn, pastIn, withTable};
 ghost use Rattle.steps.specs.Refusals.{isNext, hasStamp, strangeEntries, strange, beyondOwn, hearRefusal};
-ghost use Rattle.steps.specs.Steps.{hearTaken, otherAnswer};
+ghost use Rattle.steps.specs.Steps.{otherAnswer};
+ghost use Rattle.steps.specs.Loops.{takenRaised};
 
 // Where the table stands in a row, and how many entries it has of a lane.
 pub(crate) const TABLE: usize = row::TABLE as usize;
@@ -146,6 +146,7 @@ pub(crate) fn raise_all(row: &mut [u16], entries: [Entry; Frame::LANES])
     requires { do ⌜ 543 ≤ (← ⟦row.len()⟧) ⌝ }
     ensures { λ _. ⌜ postIn (now (row .exit)) ≡ withTable (postIn (now (row .entry))) (raisedBelow (postIn (now (row .entry)) .table) entries 8) ⌝ }
     ensures known { λ _. ⌜ knownIn (now (row .exit)) ≡ knownIn (now (row .entry)) ⌝ }
+    ensures past { λ _. ⌜ pastIn (now (row .exit)) ≡ pastIn (now (row .entry)) ⌝ }
 {
     raise_table(&mut row[TABLE..TABLE_END], entries)
 }
@@ -173,12 +174,13 @@ fn raise(table: &mut [u16], lane: usize, e: Entry)
     }
 }
 
-// Part 3: the order is taken, and broadcast under the post's own lane as sender.
+// Part 3, once the entries have raised the table: the order is taken, and broadcast under the post's own lane as sender.
 pub(crate) fn take(row: &mut [u16], f: Frame) -> Frame
     requires { do ⌜ (543 ≤ (← ⟦row.len()⟧)) × (postIn (now row) .lane < 8) × (hasLane (postIn (now row) .sources) (postIn (now row) .lane) ≡ true → max (postIn (now row) .clock .0) (f .stamp .0) < 65535) ⌝ }
-    ensures { λ r. ⌜ r ≡ hearTaken (postIn (now (row .entry))) f .frame ⌝ }
-    ensures post { λ _. ⌜ postIn (now (row .exit)) ≡ taken (postIn (now (row .entry))) f ⌝ }
+    ensures { λ r. ⌜ r ≡ orderFrame (takenRaised (postIn (now (row .entry))) f) (f .lane) (f .serial .0) (f .stamp .0) (f .word) ⌝ }
+    ensures post { λ _. ⌜ postIn (now (row .exit)) ≡ takenRaised (postIn (now (row .entry))) f ⌝ }
     ensures known { λ _. ⌜ knownIn (now (row .exit)) ≡ knownIn (now (row .entry)) ⌝ }
+    ensures past { λ _. ⌜ pastIn (now (row .exit)) ≡ pastIn (now (row .entry)) ⌝ }
 {
     let sender = row::lane(row) as u8;
     keep_and_tick(row, f);
@@ -196,17 +198,16 @@ pub(crate) fn take(row: &mut [u16], f: Frame) -> Frame
     }
 }
 
-// Parts 1 and 3: the entries raise the table, the order is kept, and the clock of a source passes its stamp.
+// The order is kept, and the clock of a source passes its stamp.
 fn keep_and_tick(row: &mut [u16], f: Frame)
     requires { do ⌜ (543 ≤ (← ⟦row.len()⟧)) × (hasLane (postIn (now row) .sources) (postIn (now row) .lane) ≡ true → max (postIn (now row) .clock .0) (f .stamp .0) < 65535) ⌝ }
-    ensures { λ _. ⌜ postIn (now (row .exit)) ≡ taken (postIn (now (row .entry))) f ⌝ }
+    ensures { λ _. ⌜ postIn (now (row .exit)) ≡ takenRaised (postIn (now (row .entry))) f ⌝ }
     ensures known { λ _. ⌜ knownIn (now (row .exit)) ≡ knownIn (now (row .entry)) ⌝ }
+    ensures past { λ _. ⌜ pastIn (now (row .exit)) ≡ pastIn (now (row .entry)) ⌝ }
 {
     let source = cells::has(row::sources(row), row::lane(row));
     let serial = row::serial(row);
     let reached = cells::later(row::clock(row), f.stamp);
-    let entries = f.entries;
-    raise_all(row, entries);
     row::keep(row, f.lane, f.serial, f.stamp, f.word);
     if source {
         row::tick(row, serial, Stamp(reached.0 + 1));

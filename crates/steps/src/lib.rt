@@ -9,7 +9,7 @@ use frame::Frame;
 use frame::Serial;
 use frame::Stamp;
 ghost use mathlib.Core.Path.{_≡_};
-ghost use Rattle.row.specs.Rows.{postIn, knownIn};
+ghost use Rattle.row.specs.Rows.{postIn, knownIn, pastIn};
 ghost use Rattle.steps.specs.Refusals.{orderRefusal, hearRefusal, beaconRefusal};
 ghost use Rattle.steps.specs.Steps.{beaconStep};
 ghost use Rattle.steps.specs.Answers.{orderNumber, hearNumber, beaconNumber};
@@ -62,6 +62,7 @@ pub struct Beaconed {
 // The post sends an order (21 to 24), and delivers.
 pub fn order(row: &mut [u16], word: u16) -> RowOrdered
     ensures { λ r. ⌜ stepped (r .answer) (now (row .exit)) (r .frame) ≡ ordersBy (knownIn (now (row .entry))) (postIn (now (row .entry))) word ⌝ }
+    ensures past { λ _. ⌜ pastIn (now (row .exit)) ≡ pastIn (now (row .entry)) ⌝ }
     ensures number { λ r. ⌜ orderNumber (r .answer) ≡ orderRefusal (postIn (now (row .entry))) ⌝ }
     ensures serial { λ r. ⌜ orderSerial (r .answer) ≡ orderStepSerial (postIn (now (row .entry))) ⌝ }
     ensures stamp { λ r. ⌜ orderStamp (r .answer) ≡ orderStepStamp (postIn (now (row .entry))) ⌝ }
@@ -92,6 +93,7 @@ pub fn order(row: &mut [u16], word: u16) -> RowOrdered
 // The post hears a frame (21, 24, 26, 28 to 30), and delivers.
 pub fn hear(row: &mut [u16], f: Frame) -> RowHeard
     ensures { λ r. ⌜ stepped (r .answer) (now (row .exit)) (r .frame) ≡ hearsBy (knownIn (now (row .entry))) (postIn (now (row .entry))) f ⌝ }
+    ensures past { λ _. ⌜ pastIn (now (row .exit)) ≡ pastIn (now (row .entry)) ⌝ }
     ensures number { λ r. ⌜ hearNumber (r .answer) ≡ hearRefusal (postIn (now (row .entry))) f ⌝ }
     ensures count { λ r. ⌜ hearCount (r .answer) ≡ hearCountBy (knownIn (now (row .entry))) (postIn (now (row .entry))) f ⌝ }
 {
@@ -105,6 +107,8 @@ pub fn hear(row: &mut [u16], f: Frame) -> RowHeard
             frame: none,
         };
     }
+    let entries = f.entries;
+    hearing::raise_all(row, entries);
     if next {
         let frame = hearing::take(row, f);
         let count = deliver::deliver(row);
@@ -113,8 +117,6 @@ pub fn hear(row: &mut [u16], f: Frame) -> RowHeard
             frame: frame,
         };
     }
-    let entries = f.entries;
-    hearing::raise_all(row, entries);
     let count = deliver::deliver(row);
     let answer = hearing::other(f, last, count);
     let none = Frame::none();

@@ -8,7 +8,7 @@ use row::SerialCell;
 ghost use mathlib.Core.Path.{_≡_};
 ghost use Prim.Native.Nat.{_<_, _≤_};
 ghost use Rattle.post.specs.Taking.{ownTaken};
-ghost use Rattle.row.specs.Rows.{postIn, knownIn};
+ghost use Rattle.row.specs.Rows.{postIn, knownIn, pastIn};
 ghost use Rattle.steps.specs.Refusals.{orderRefusal};
 ghost use Rattle.steps.specs.Steps.{orderSent};
 
@@ -34,6 +34,7 @@ pub(crate) fn send(row: &mut [u16], word: u16) -> Frame
     ensures { λ r. ⌜ r ≡ orderSent (postIn (now (row .entry))) word .frame ⌝ }
     ensures post { λ _. ⌜ postIn (now (row .exit)) ≡ ownTaken (postIn (now (row .entry))) word ⌝ }
     ensures known { λ _. ⌜ knownIn (now (row .exit)) ≡ knownIn (now (row .entry)) ⌝ }
+    ensures past { λ _. ⌜ pastIn (now (row .exit)) ≡ pastIn (now (row .entry)) ⌝ }
 {
     let lane = row::lane(row) as u8;
     let own = row::serial(row);

@@ -5,7 +5,7 @@ use mathlib.Core.List.{List}
 use Prim.Native.Nat.{ℕ, _+_, _<_, _≤_}
 use native.Mathlib.Omega.{arith}
 use lib.Dec.{ltb, leb, eqb}
-use lib.ListN.{length, getD, set, length-take, length-drop}
+use lib.ListN.{length, getD, set}
 use lib.Seq.{set-getD}
 use borrow.Author.Tests.{ne-eqb, eqb-true, eqb-false, not-false, lt-ltb, le-ltb, leb-false}
 use Rattle.frame.specs.Refusals.{frameRefusal}
@@ -15,7 +15,7 @@ use Rattle.frame.specs.declared.FrameRead.{FrameRead}
 use Rattle.frame.proofs.Laws.{passed}
 use Rattle.air.specs.Air.{badAir, notOnAir, stretchAt, placeRefusal, framesWith}
 use Rattle.air.specs.Stretch.{stretchRefusal, stretchOf}
-use Rattle.air.proofs.Laws.{is-on-air, stretch-good, stretch-empty, has-place, kept-bytes}
+use Rattle.air.proofs.Laws.{has-place, kept-bytes}
 use Rattle.cells.specs.Sets.{hasLane}
 use Rattle.cells.specs.Tables.{orderPlace}
 use Rattle.post.specs.declared.Post.{Post}
@@ -26,18 +26,14 @@ use Rattle.yard.specs.Singles.{framesAfter, absentRefusal, stopsHearing,
 -- ---- the frame that a post is to hear
 
 -- 21 comes before 25, and after 13
-pub absent-is : (air : List ℕ) (p : Post) (lane posts frames k n r : ℕ) (here : Bool) → n ≡ stretchRefusal air frames k → posts ≡ p .posts → lane ≡ p .lane
-    → here ≡ hasLane posts lane → r ≡ cond (eqb n 25 && not here) 21 n
+absent-is : (air : List ℕ) (p : Post) (frames k n r : ℕ) → n ≡ stretchRefusal air frames k → r ≡ cond (eqb n 25 && notInYard (p .posts) (p .lane)) 21 n
     → r ≡ absentRefusal air (p .lane) (p .posts) frames k
 unfolding stretchRefusal
-absent-is air p lane posts frames k n r here en ep el eh er = go (badAir air) refl (notOnAir frames k) refl
+absent-is air p frames k n r en er = go (badAir air) refl (notOnAir frames k) refl
   where
-    e : here ≡ hasLane (p .posts) (p .lane)
-    e = rw (ep, el) at eh
-
     go : (a : Bool) → badAir air ≡ a → (o : Bool) → notOnAir frames k ≡ o → r ≡ absentRefusal air (p .lane) (p .posts) frames k
     go true qa o qo = rw qa (let z : n ≡ 13 = rw qa at en in rw z at er)
-    go false qa true qo = rw (qa, qo, ← e) (let z : n ≡ 25 = rw (qa, qo) at en in rw z at er)
+    go false qa true qo = rw (qa, qo) (let z : n ≡ 25 = rw (qa, qo) at en in rw z at er)
     go false qa false qo = rw (qa, qo) (let z : n ≡ 0 = rw (qa, qo) at en in rw z at er)
 
 -- what stops a hearing, and the frame where nothing does
@@ -84,25 +80,15 @@ none-absent : (air : List ℕ) (p : Post) (frames k : ℕ) → absentRefusal air
 unfolding stretchRefusal
 none-absent air p frames k z = let o = on-air air p frames k z in rw (o .0, o .1)
 
--- a stretch that is given back has 32 bytes, and none has 0
-pub found-there : (air part : List ℕ) (p : Post) (frames k : ℕ) (got : FrameRead) → part ≡ stretchOf air frames k → (length part ≡ 0 → ⊥) → got ≡ readOf part
-    → Found air p frames k (got .refusal) (got .frame)
-found-there air part p frames k got e h eg = go (eqb (stretchRefusal air frames k) 0) refl
-  where
-    go : (b : Bool) → eqb (stretchRefusal air frames k) 0 ≡ b → Found air p frames k (got .refusal) (got .frame)
-    go true q = there air p frames k got (absent-none air (p .lane) (p .posts) frames k (eqb-true (stretchRefusal air frames k) 0 q)) (rw e at eg)
-    go false q = absurd (h (ap length (e ∙ sym (stretch-empty air frames k (stretchRefusal air frames k) refl (eqb-false (stretchRefusal air frames k) 0 q)))))
+pub found-there : (air part : List ℕ) (p : Post) (frames k n : ℕ) (got : FrameRead) → n ≡ stretchRefusal air frames k → n ≡ 0 → part ≡ stretchOf air frames k
+    → got ≡ readOf part → Found air p frames k (got .refusal) (got .frame)
+found-there air part p frames k n got en z e eg = there air p frames k got (absent-none air (p .lane) (p .posts) frames k (sym en ∙ z)) (rw e at eg)
 
-pub found-nothing : (air part : List ℕ) (p : Post) (frames k n : ℕ) (f : Frame) → part ≡ stretchOf air frames k → length part ≡ 0
-    → n ≡ absentRefusal air (p .lane) (p .posts) frames k → Found air p frames k n f
-found-nothing air part p frames k n f e z en = not-there air p frames k n f en (λ q. filled (none-absent air p frames k (sym en ∙ q)))
-  where
-    filled : stretchRefusal air frames k ≡ 0 → ⊥
-    filled r =
-        let o = is-on-air air frames k r in
-        let w : length (stretchAt air k) ≡ 32 = simp (length-take, length-drop) (omega arith) in
-        let y : length part ≡ length (stretchAt air k) = ap length (e ∙ sym (stretch-good air frames k (stretchRefusal air frames k) refl r)) in
-        omega arith
+pub found-nothing : (air : List ℕ) (p : Post) (frames k n r : ℕ) (f : Frame) → n ≡ stretchRefusal air frames k → (n ≡ 0 → ⊥)
+    → r ≡ cond (eqb n 25 && notInYard (p .posts) (p .lane)) 21 n → Found air p frames k r f
+found-nothing air p frames k n r f en h er =
+    let e = absent-is air p frames k n r en er in
+    not-there air p frames k r f e (λ q. h (en ∙ none-absent air p frames k (sym e ∙ q)))
 
 -- where nothing stops it the air has its length
 pub air-there : (air : List ℕ) (p : Post) (frames k : ℕ) → stopsHearing air p frames k ≡ 0 → length air ≡ 65536

@@ -7,36 +7,36 @@ use frame::FrameRead;
 use frame::Serial;
 use row::SerialCell;
 ghost use mathlib.Core.Path.{_≡_};
-ghost use mathlib.Core.Bool.{cond};
-ghost use lib.Dec.{ltb};
+ghost use mathlib.Core.Bool.{cond, _&&_};
+ghost use lib.Dec.{ltb, eqb};
 ghost use lib.ListN.{getD, set};
 ghost use Rattle.air.specs.Air.{framesWith};
 ghost use Rattle.cells.specs.Tables.{orderPlace};
 ghost use Rattle.row.specs.Rows.{putIn, postIn};
-ghost use Rattle.yard.specs.Singles.{framesAfter, absentRefusal, stopsHearing, frameAt, stopsBeacon};
+ghost use Rattle.steps.specs.Refusals.{notInYard};
+ghost use Rattle.yard.specs.Singles.{framesAfter, stopsHearing, frameAt, stopsBeacon};
 
 // Frame k as the post of a row is to hear it: what stops the hearing (13, 21, 25, what reading refuses), or 0 and the frame. The air
-// gives back that stretch of itself, which the reader then decodes; where it gives back none, `absent` tells why.
+// gives back that stretch of itself, which the reader then decodes.
 pub(crate) fn frame_for(row: &[u16], air: &[u8], frames: u16, k: usize) -> FrameRead
     ensures { λ r. ⌜ r .refusal ≡ stopsHearing (now (air .entry)) (postIn (now (row .entry))) frames k ⌝ }
     ensures frame { λ r. ⌜ (r .refusal ≡ 0 → r .frame ≡ frameAt (now (air .entry)) k) ⌝ }
 {
-    let part = air::stretch(air, frames as usize, k);
-    if part.len() == 0 {
+    let number = air::refusal(air, frames as usize, k);
+    if number != 0 {
         let none = Frame::none();
         return FrameRead {
-            refusal: absent(row, air, frames, k),
+            refusal: absent(row, number),
             frame: none,
         };
     }
-    Frame::read(part)
+    Frame::read(air::stretch(air, frames as usize, k))
 }
 
-// 13, 21 or 25 where frame k is not on the air, or 0.
-fn absent(row: &[u16], air: &[u8], frames: u16, k: usize) -> u8
-    ensures { λ r. ⌜ r ≡ absentRefusal (now (air .entry)) (postIn (now (row .entry)) .lane) (postIn (now (row .entry)) .posts) frames k ⌝ }
+// What the post of a row is told where the air refuses a frame (13, 25): a post that is not in the yard 21, before 25.
+fn absent(row: &[u16], number: u8) -> u8
+    ensures { λ r. ⌜ r ≡ cond (eqb number 25 && notInYard (postIn (now (row .entry)) .posts) (postIn (now (row .entry)) .lane)) 21 number ⌝ }
 {
-    let number = air::refusal(air, frames as usize, k);
     let here = cells::has(row::posts(row), row::lane(row));
     cells::pick((number == 25) & !here, 21, number)
 }

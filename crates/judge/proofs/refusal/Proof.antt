@@ -20,7 +20,7 @@ returns-3 c =
 returns-4 : tie.Need-returns-4
 returns-4 c =
     let t = tested (c .before .before .before .before .before .before .before .before .before .before .before .before .before .before .before .before .before .before .before .before .before .before .before .before .before .before .before .before .args .row .now) _ _ _ _ _ (omega (arith, c .before .before .before .before .before .before .before .before .before .before .before .before .before .before .before .before .before .before .before .before .before .before .before .before .before .before .if1 .left)) (c .before .before .before .before .before .before .before .before .before .before .before .before .before .before .before .before .before .before .before .before .before .before .before .before .logged .ensures) (c .before .before .before .before .before .before .before .before .before .before .before .before .before .before .before .before .before .before .before .before .before .before .before .at-most-128 .ensures) (c .before .before .before .before .before .before .before .before .before .before .before .before .before .before .before .before .before .before .before .before .before .bad-numbers .ensures) (c .before .before .before .before .before .before .before .before .before .before .before .before .before .before .before .before .bad-orders .ensures) (c .before .before .before .before .before .before .before .before .before .before .before .before .before .bad-unused .ensures) in
-    all-good (c .before .before .before .before .before .before .before .before .before .before .before .before .before .before .before .before .before .before .before .before .before .before .before .before .before .before .before .before .args .row .now) (c .before .before .learn .last .0) _ _ _ _ _ _ t (c .before .before .before .before .before .before .before .before .before .before .before .before .if2 .left) (c .before .before .before .before .before .before .before .bad-used .ensures .0) (c .before .before .before .before .before .if3 .left) (c .before .before .before .before .before .before .before .bad-used .ensures .1) (c .before .before .learn .ensures .0) (c .before .before .learn .ensures .1)
+    all-good (c .before .before .before .before .before .before .before .before .before .before .before .before .before .before .before .before .before .before .before .before .before .before .before .before .before .before .before .before .args .row .now) (c .before .before .learn .last .0) _ _ _ _ _ _ t (c .before .before .before .before .before .before .before .before .before .before .before .before .if2 .left) (c .before .before .before .before .before .before .before .bad-used .ensures .0) (c .before .before .before .before .before .if3 .left) (c .before .before .before .before .before .before .before .bad-used .ensures .1) (c .before .before .learn .ensures .0) (c .before .before .learn .ensures .1 .0) (c .before .before .learn .ensures .1 .1)
 
 pub refusal-spec : {M : Type 1} → statement M
 refusal-spec = tie.close (tie.spec returns (λ c κs. tt) (λ c κs. tt) (λ c κs. search needs) (λ c. search needs) (λ c. search needs) (λ c. search needs) (λ c. search needs) (λ c. search needs) (λ c. search needs) (λ c. search needs) (λ c. search needs) (λ c. search needs) (λ c κs. search needs) (λ c. search needs) (λ c. search needs) (λ c. search needs) (λ c κs. search needs) (λ c. search needs) returns-2 (λ c. search needs) (λ c. search needs) (λ c. search needs) (λ c. search needs) (λ c. search needs) (λ c. search needs) (λ c. search needs) (λ c κs. search needs) (λ c. search needs) returns-3 (λ c. search needs) (λ c κs. search needs) (λ c. search needs) returns-4)

@@ -27,8 +27,8 @@ returns-3 c =
     let p = c .before .before .before .before .before .before .before .before .before .before .before .before .before .before .before .before .args .p in
     let row = loaded p (c .before .before .before .before .before .before .before .before .before .before .before .before .load .last .0) (omega (arith, c .before .before .before .before .before .before .before .before .before .before .before .before .load .kept .0)) (c .before .before .before .before .before .before .before .before .before .before .before .before .load .ensures .0) in
     let judged = row-judged p _ _ row (c .before .before .before .before .before .before .before .before .before .refusal .ensures .0) in
-    let knows = row-knows p _ _ _ row (c .before .before .before .before .before .before .before .before .before .refusal .ensures .0) (c .before .before .before .before .before .before .before .if2 .left) (c .before .before .before .before .before .before .before .before .before .refusal .ensures .1 .0) (c .before .before .before .before .before .before .before .before .before .refusal .ensures .1 .1) in
-    let r = beacon-sends p (c .before .before .before .before .before .before .before .before .before .before .before .before .before .before .before .before .args .buffer .now) _ _ _ (omega (arith, c .before .before .before .before .before .before .before .before .before .before .before .before .before .before .if1 .left)) judged (c .before .before .before .before .before .before .before .if2 .left) (c .before .before .before .before .before .beacon .ensures .0 ∙ ap beaconStep (knows .post)) (c .before .before .broadcast .ensures) in
+    let knows = row-knows p _ _ _ row (c .before .before .before .before .before .before .before .before .before .refusal .ensures .0) (c .before .before .before .before .before .before .before .if2 .left) (c .before .before .before .before .before .before .before .before .before .refusal .ensures .1 .0) (c .before .before .before .before .before .before .before .before .before .refusal .ensures .1 .1 .0) in
+    let r = beacon-sends p (c .before .before .before .before .before .before .before .before .before .before .before .before .before .before .before .before .args .buffer .now) _ _ _ (omega (arith, c .before .before .before .before .before .before .before .before .before .before .before .before .before .before .if1 .left)) judged (c .before .before .before .before .before .before .before .if2 .left) (c .before .before .before .before .before .beacon .ensures .0 ∙ ap beaconStep (knows .post)) (c .before .before .write .ensures .1) in
     (r .0, (r .1, ap beaconNumber (r .0) ∙ beacon-number _ _))
 
 pub beacon-spec : {M : Type 1} → statement M

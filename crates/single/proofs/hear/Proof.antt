@@ -36,10 +36,10 @@ returns-4 c =
     let row = loaded p (c .before .before .before .before .before .before .before .before .before .before .before .before .before .before .before .load .last .0) (omega (arith, c .before .before .before .before .before .before .before .before .before .before .before .before .before .before .before .load .kept .0)) (c .before .before .before .before .before .before .before .before .before .before .before .before .before .before .before .load .ensures .0) in
     let judged = row-judged p _ _ row (c .before .before .before .before .before .before .before .before .before .before .before .before .refusal .ensures .0) in
     let good = record-good p _ judged (c .before .before .before .before .before .before .before .before .before .before .if3 .left) in
-    let knows = row-knows p _ _ _ row (c .before .before .before .before .before .before .before .before .before .before .before .before .refusal .ensures .0) (c .before .before .before .before .before .before .before .before .before .before .if3 .left) (c .before .before .before .before .before .before .before .before .before .before .before .before .refusal .ensures .1 .0) (c .before .before .before .before .before .before .before .before .before .before .before .before .refusal .ensures .1 .1) in
+    let knows = row-knows p _ _ _ row (c .before .before .before .before .before .before .before .before .before .before .before .before .refusal .ensures .0) (c .before .before .before .before .before .before .before .before .before .before .if3 .left) (c .before .before .before .before .before .before .before .before .before .before .before .before .refusal .ensures .1 .0) (c .before .before .before .before .before .before .before .before .before .before .before .before .refusal .ensures .1 .1 .0) in
     let run = runs p bytes (c .before .before .before .before .before .before .before .before .before .before .before .before .before .before .before .before .before .before .before .before .before .before .before .before .args .buffer .now) _ _ (omega (arith, c .before .before .before .before .before .before .before .before .before .before .before .before .before .before .before .before .before .before .before .before .before .if1 .left)) (c .before .before .before .before .before .before .before .before .before .before .before .before .before .before .before .before .before .before .before .before .read .ensures .0) (c .before .before .before .before .before .before .before .before .before .before .before .before .before .before .before .before .before .before .if2 .left) judged (c .before .before .before .before .before .before .before .before .before .before .if3 .left) in
     let done = hear-runs p _ _ (c .before .before .before .before .before .before .before .before .hear .last .0) _ _ _ (rw (run .frame) (run .accepted)) (rw (run .frame) (bytes-fit bytes are)) shaped good knows (omega (arith, c .before .before .before .before .before .before .before .before .hear .kept .0, c .before .before .before .before .before .before .before .before .before .before .before .before .refusal .kept .0, c .before .before .before .before .before .before .before .before .before .before .before .before .before .before .before .load .kept .0)) (c .before .before .before .before .before .before .before .before .hear .ensures .0) (c .store .ensures) in
-    let r = hear-sends p bytes (c .before .before .before .before .before .before .before .before .before .before .before .before .before .before .before .before .before .before .before .before .before .before .before .before .args .buffer .now) _ _ _ run (omega (arith, c .before .before .before .before .before .before .before .before .before .before .before .before .before .before .before .before .before .before .before .before .before .if1 .left)) done (c .before .before .before .before .broadcast .ensures) in
+    let r = hear-sends p bytes (c .before .before .before .before .before .before .before .before .before .before .before .before .before .before .before .before .before .before .before .before .before .before .before .before .args .buffer .now) _ _ _ run (omega (arith, c .before .before .before .before .before .before .before .before .before .before .before .before .before .before .before .before .before .before .before .before .before .if1 .left)) done (c .before .before .before .before .write .ensures .1) in
     (r .0, (r .1, hear-tells _ _ _ _ (r .0)))
 
 pub hear-spec : {M : Type 1} → statement M

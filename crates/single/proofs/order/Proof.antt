@@ -27,9 +27,9 @@ returns-3 c =
     let row = loaded p (c .before .before .before .before .before .before .before .before .before .before .before .before .before .before .before .load .last .0) (omega (arith, c .before .before .before .before .before .before .before .before .before .before .before .before .before .before .before .load .kept .0)) (c .before .before .before .before .before .before .before .before .before .before .before .before .before .before .before .load .ensures .0) in
     let judged = row-judged p _ _ row (c .before .before .before .before .before .before .before .before .before .before .before .before .refusal .ensures .0) in
     let good = record-good p _ judged (c .before .before .before .before .before .before .before .before .before .before .if2 .left) in
-    let knows = row-knows p _ _ _ row (c .before .before .before .before .before .before .before .before .before .before .before .before .refusal .ensures .0) (c .before .before .before .before .before .before .before .before .before .before .if2 .left) (c .before .before .before .before .before .before .before .before .before .before .before .before .refusal .ensures .1 .0) (c .before .before .before .before .before .before .before .before .before .before .before .before .refusal .ensures .1 .1) in
+    let knows = row-knows p _ _ _ row (c .before .before .before .before .before .before .before .before .before .before .before .before .refusal .ensures .0) (c .before .before .before .before .before .before .before .before .before .before .if2 .left) (c .before .before .before .before .before .before .before .before .before .before .before .before .refusal .ensures .1 .0) (c .before .before .before .before .before .before .before .before .before .before .before .before .refusal .ensures .1 .1 .0) in
     let done = order-runs p (c .before .before .before .before .before .before .before .before .before .before .before .before .before .before .before .before .before .before .before .args .word) _ (c .before .before .before .before .before .before .before .before .order .last .0) _ _ _ (omega (arith, c .before .before .before .before .before .before .before .before .before .before .before .before .before .before .before .before .before .before .before .good .1)) shaped good knows (omega (arith, c .before .before .before .before .before .before .before .before .order .kept .0, c .before .before .before .before .before .before .before .before .before .before .before .before .refusal .kept .0, c .before .before .before .before .before .before .before .before .before .before .before .before .before .before .before .load .kept .0)) (c .before .before .before .before .before .before .before .before .order .ensures .0) (c .store .ensures) in
-    let r = order-sends p (c .before .before .before .before .before .before .before .before .before .before .before .before .before .before .before .before .before .before .before .args .word) (c .before .before .before .before .before .before .before .before .before .before .before .before .before .before .before .before .before .before .before .args .buffer .now) _ _ _ (omega (arith, c .before .before .before .before .before .before .before .before .before .before .before .before .before .before .before .before .before .if1 .left)) judged (c .before .before .before .before .before .before .before .before .before .before .if2 .left) done (c .before .before .before .before .broadcast .ensures) in
+    let r = order-sends p (c .before .before .before .before .before .before .before .before .before .before .before .before .before .before .before .before .before .before .before .args .word) (c .before .before .before .before .before .before .before .before .before .before .before .before .before .before .before .before .before .before .before .args .buffer .now) _ _ _ (omega (arith, c .before .before .before .before .before .before .before .before .before .before .before .before .before .before .before .before .before .if1 .left)) judged (c .before .before .before .before .before .before .before .before .before .before .if2 .left) done (c .before .before .before .before .write .ensures .1) in
     (r .0, (r .1, order-tells _ _ _ _ (r .0)))
 
 pub order-spec : {M : Type 1} → statement M

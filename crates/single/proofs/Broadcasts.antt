@@ -16,7 +16,7 @@ use Rattle.post.specs.Taking.{ownTaken, kept, ticked, taken}
 use Rattle.steps.specs.Refusals.{notInYard, isNext, orderRefusal, hearRefusal, beaconRefusal}
 use Rattle.steps.specs.Steps.{orderSent, hearTaken}
 use Rattle.steps.proofs.Passed.{order-passed, hear-passed}
-use Rattle.steps.proofs.Ways.{taken-lane}
+use Rattle.steps.proofs.HearWays.{taken-lane}
 use Rattle.laws.proofs.TestLaws.{and-parts}
 use Rattle.laws.proofs.NewestLaws.{order-accepted, beacon-accepted}
 use Rattle.laws.proofs.Accepted.{accepted}

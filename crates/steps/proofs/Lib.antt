@@ -3,4 +3,5 @@ pub mod RaiseLaws
 pub mod NewestLaws
 pub mod AnswerLaws
 pub mod Ways
+pub mod HearWays
 pub mod KnownSteps

@@ -2,7 +2,7 @@ use native.Mathlib.Omega.{arith}
 use Prim.Native.Nat.{_≤_}
 use lib.ListN.{length}
 use mathlib.Core.Path.{refl, sym, _∙_}
-use Rattle.steps.proofs.Ways.{whole-row, can-take, hear-takes, hear-raises, hear-stays, with-hear-answers}
+use Rattle.steps.proofs.HearWays.{whole-row, can-take, hear-takes, hear-raises, hear-stays, with-hear-answers}
 use borrow.Author.Needs.{needs}
 use Rattle.steps.proofs.hear.Statement.{statement}
 use Rattle.steps.proofs.hear.Tie as tie

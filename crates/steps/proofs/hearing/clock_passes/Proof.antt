@@ -1,4 +1,4 @@
-use Rattle.steps.proofs.Ways.{no-next, a-next}
+use Rattle.steps.proofs.HearWays.{no-next, a-next}
 use borrow.Author.Needs.{needs}
 use Rattle.steps.proofs.hearing.clock_passes.Statement.{statement}
 use Rattle.steps.proofs.hearing.clock_passes.Tie as tie

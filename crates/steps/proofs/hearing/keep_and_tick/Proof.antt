@@ -5,7 +5,7 @@ use mathlib.Core.Path.{_∙_, ap}
 use Rattle.frame.specs.declared.Stamp.{Stamp}
 use Rattle.row.specs.Rows.{postIn}
 use Rattle.row.proofs.Laws.{tick-post, tick-known, tick-past}
-use Rattle.steps.proofs.Ways.{takes-source, takes-other, fits, is-source, is-reached}
+use Rattle.steps.proofs.HearWays.{takes-source, takes-other, fits, is-source, is-reached}
 use borrow.Author.Needs.{needs}
 use Rattle.steps.proofs.hearing.keep_and_tick.Statement.{statement}
 use Rattle.steps.proofs.hearing.keep_and_tick.Tie as tie

@@ -2,7 +2,7 @@ use native.Mathlib.Omega.{arith}
 use mathlib.Core.Path.{refl}
 use lib.ListN.{length-take, length-drop}
 use Rattle.row.specs.Rows.{part, postIn}
-use Rattle.steps.proofs.Ways.{raised-row}
+use Rattle.steps.proofs.HearWays.{raised-row}
 use borrow.Author.Needs.{needs}
 use Rattle.steps.proofs.hearing.raise_all.Statement.{statement}
 use Rattle.steps.proofs.hearing.raise_all.Tie as tie

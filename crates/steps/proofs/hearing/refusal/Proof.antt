@@ -1,6 +1,6 @@
 use Rattle.row.specs.Rows.{postIn}
 use native.Mathlib.Omega.{arith}
-use Rattle.steps.proofs.Ways.{is-21, inside, is-24, is-26, others, is-28, is-29, is-30, is-0, clock-is, above-is}
+use Rattle.steps.proofs.HearWays.{is-21, inside, is-24, is-26, others, is-28, is-29, is-30, is-0, clock-is, above-is}
 use borrow.Author.Needs.{needs}
 use Rattle.steps.proofs.hearing.refusal.Statement.{statement}
 use Rattle.steps.proofs.hearing.refusal.Tie as tie

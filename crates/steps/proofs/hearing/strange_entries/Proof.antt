@@ -2,7 +2,7 @@ use Rattle.frame.specs.Lanes.{anyBelow}
 use Rattle.frame.specs.Layout.{noEntry}
 use Rattle.cells.specs.Sets.{hasLane}
 use Rattle.steps.specs.Refusals.{hasStamp, strangeEntries}
-use Rattle.steps.proofs.Ways.{some-found, none-so-far}
+use Rattle.steps.proofs.HearWays.{some-found, none-so-far}
 use Prim.Native.Nat.{ℕ, _≤_, _-_}
 use mathlib.Core.Bool.{false, not, _&&_}
 use lib.ListN.{getD}

@@ -1,6 +1,6 @@
 use borrow.Author.Needs.{needs}
 use Rattle.row.specs.Rows.{postIn}
-use Rattle.steps.proofs.Ways.{takes-frame}
+use Rattle.steps.proofs.HearWays.{takes-frame}
 use Rattle.steps.proofs.hearing.take.Statement.{statement}
 use Rattle.steps.proofs.hearing.take.Tie as tie
 

@@ -59,7 +59,7 @@ fn play_line<'a>(
     to: usize,
 ) -> usize {
     let mut buffer = [0u8; Frame::LENGTH];
-    if (byte_at(script, after(script, at, b' ')) % Post::LANES) as u16 != row::lane(row) {
+    if (byte_at(script, after(script, at, b' ')) % Post::LANES) as u16 != row::get(row, row::LANE) {
         return to;
     }
     let told = step(row, reader::read_line(script, at), air, &mut buffer);

@@ -27,7 +27,8 @@ pub fn refusal(row: &mut [u16]) -> u8
     if row.len() < row::LENGTH {
         return 12;
     }
-    let n = log::at_most_128(row::logged(row));
+    let head = row::read_head(row);
+    let n = log::at_most_128(head.logged);
     let numbers = bad_numbers(row);
     let orders = orders::bad_orders(&row[6..14], &row[158..286], &row[286..414]);
     if numbers | orders | log::bad_unused(&row[414..542], n) {
@@ -46,12 +47,13 @@ fn bad_numbers(row: &[u16]) -> bool
     requires { do ⌜ 543 ≤ (← ⟦row.len()⟧) ⌝ }
     ensures { λ r. ⌜ r ≡ badNumbers (postIn (now (row .entry))) ⌝ }
 {
-    let lane = row::lane(row);
-    let serial = row::serial(row);
-    let logged = row::logged(row);
+    let head = row::read_head(row);
+    let lane = head.lane;
+    let serial = head.serial;
+    let logged = head.logged;
     let own = row::get_in(row, row::LAST, 8, lane as usize);
     let last = bad_last(&row[6..14]);
-    let roles = bad_roles(row::posts(row), row::sources(row), row::dests(row));
+    let roles = bad_roles(head.posts, head.sources, head.dests);
     (7 < lane) | (16 < serial.0) | (128 < logged) | last | roles | !(serial.0 == own)
 }
 

@@ -7,6 +7,7 @@ use lib.Dec.{ltb}
 use lib.ListN.{getD, set, take, drop}
 use Rattle.cells.specs.Tables.{entryPlace}
 use Rattle.post.specs.declared.Post.{Post}
+use Rattle.row.specs.declared.Head.{Head}
 
 -- the n cells from `first` on
 unfoldable pub part : List ℕ → ℕ → ℕ → List ℕ
@@ -31,6 +32,18 @@ postIn row = record {
   words = part row 286 128;
   log = part row 414 128;
   posts = getD row 542 0;
+}
+
+-- its numbers alone
+abbrev pub headOf : Post → Head
+headOf p = record {
+  lane = p .lane;
+  posts = p .posts;
+  sources = p .sources;
+  dests = p .dests;
+  clock = p .clock;
+  serial = record { 0 = p .serial .0 };
+  logged = p .logged;
 }
 
 -- no part of the record: the serial up to which each lane's orders are known to be logged

@@ -9,10 +9,21 @@ ghost use lib.ListN.{getD, set};
 ghost use Rattle.cells.specs.Tables.{entryPlace, orderPlace};
 ghost use Rattle.post.specs.Record.{lastOf, withLog};
 ghost use Rattle.post.specs.Taking.{kept};
-ghost use Rattle.row.specs.Rows.{part, putIn, postIn, knownIn, pastIn, tickedRow};
+ghost use Rattle.row.specs.Rows.{part, putIn, postIn, knownIn, pastIn, headOf, tickedRow};
 
 // A serial as a cell holds it: in a row that somebody made up it may be any number of 16 bits.
 pub struct SerialCell(pub u16);
+
+// The numbers of a record: lane, sets of lanes, clock, own serial, and the length of the log.
+pub struct Head {
+    pub lane: u16,
+    pub posts: u16,
+    pub sources: u16,
+    pub dests: u16,
+    pub clock: Stamp,
+    pub serial: SerialCell,
+    pub logged: u16,
+}
 
 // Cells of a part: one a lane, one an entry of the table, one an order.
 pub const LANES: u16 = Frame::LANES as u16;
@@ -91,47 +102,19 @@ pub fn put_in(row: &mut [u16], first: u16, n: u16, i: usize, v: u16)
     }
 }
 
-pub fn lane(row: &[u16]) -> u16
-    ensures { λ r. ⌜ r ≡ postIn (now (row .entry)) .lane ⌝ }
+// The numbers of a record.
+pub fn read_head(row: &[u16]) -> Head
+    ensures { λ r. ⌜ r ≡ headOf (postIn (now (row .entry))) ⌝ }
 {
-    get(row, LANE)
-}
-
-pub fn posts(row: &[u16]) -> u16
-    ensures { λ r. ⌜ r ≡ postIn (now (row .entry)) .posts ⌝ }
-{
-    get(row, POSTS)
-}
-
-pub fn sources(row: &[u16]) -> u16
-    ensures { λ r. ⌜ r ≡ postIn (now (row .entry)) .sources ⌝ }
-{
-    get(row, SOURCES)
-}
-
-pub fn dests(row: &[u16]) -> u16
-    ensures { λ r. ⌜ r ≡ postIn (now (row .entry)) .dests ⌝ }
-{
-    get(row, DESTS)
-}
-
-pub fn clock(row: &[u16]) -> Stamp
-    ensures { λ r. ⌜ r .0 ≡ postIn (now (row .entry)) .clock .0 ⌝ }
-{
-    Stamp(get(row, CLOCK))
-}
-
-pub fn serial(row: &[u16]) -> SerialCell
-    ensures { λ r. ⌜ r .0 ≡ postIn (now (row .entry)) .serial .0 ⌝ }
-{
-    SerialCell(get(row, SERIAL))
-}
-
-// The length of the log.
-pub fn logged(row: &[u16]) -> u16
-    ensures { λ r. ⌜ r ≡ postIn (now (row .entry)) .logged ⌝ }
-{
-    get(row, LOGGED)
+    Head {
+        lane: get(row, LANE),
+        posts: get(row, POSTS),
+        sources: get(row, SOURCES),
+        dests: get(row, DESTS),
+        clock: Stamp(get(row, CLOCK)),
+        serial: SerialCell(get(row, SERIAL)),
+        logged: get(row, LOGGED),
+    }
 }
 
 // The place that stands k-th in the log.
@@ -219,7 +202,7 @@ pub fn keep(row: &mut [u16], lane: u8, serial: Serial, stamp: Stamp, word: u16)
 pub fn tick(row: &mut [u16], serial: SerialCell, clock: Stamp)
     ensures { λ _. ⌜ now (row .exit) ≡ tickedRow (now (row .entry)) (serial .0) (clock .0) ⌝ }
 {
-    let place = entry_place(lane(row), serial);
+    let place = entry_place(get(row, LANE), serial);
     put(row, CLOCK, clock.0);
     put(row, SERIAL, serial.0);
     put_in(row, TABLE, ENTRIES, place, clock.0);

@@ -42,8 +42,9 @@ pub(crate) fn refusal(row: &[u16], f: Frame, last: SerialCell, next: bool) -> u8
     requires { ⌜ (last .0 ≡ lastOf (postIn (now row)) (f .lane)) × (next ≡ isNext f (last .0)) ⌝ }
     ensures { λ r. ⌜ r ≡ hearRefusal (postIn (now (row .entry))) f ⌝ }
 {
-    let lane = row::lane(row);
-    if !cells::has(row::posts(row), lane) {
+    let head = row::read_head(row);
+    let lane = head.lane;
+    if !cells::has(head.posts, lane) {
         return 21;
     }
     if clock_passes(row, f, next) {
@@ -71,8 +72,9 @@ fn clock_passes(row: &[u16], f: Frame, next: bool) -> bool
     if !next {
         return false;
     }
-    let source = cells::has(row::sources(row), row::lane(row));
-    let reached = cells::later(row::clock(row), f.stamp);
+    let head = row::read_head(row);
+    let source = cells::has(head.sources, head.lane);
+    let reached = cells::later(head.clock, f.stamp);
     source & (Post::CLOCK_LIMIT <= reached.0)
 }
 
@@ -80,8 +82,9 @@ fn clock_passes(row: &[u16], f: Frame, next: bool) -> bool
 fn strange_frame(row: &[u16], f: Frame) -> bool
     ensures { λ r. ⌜ r ≡ strange (postIn (now (row .entry))) f ⌝ }
 {
-    let sources = row::sources(row);
-    let inside = cells::has(row::posts(row), f.sender as u16);
+    let head = row::read_head(row);
+    let sources = head.sources;
+    let inside = cells::has(head.posts, f.sender as u16);
     let source = cells::has(sources, f.lane as u16);
     !inside | ((f.kind == Frame::ORDER) & !source) | strange_entries(sources, f)
 }
@@ -120,9 +123,10 @@ fn not_above(row: &[u16], f: Frame, last: SerialCell, next: bool) -> bool
 fn beyond_own(row: &[u16], f: Frame) -> bool
     ensures { λ r. ⌜ r ≡ beyondOwn (postIn (now (row .entry))) f ⌝ }
 {
-    let lane = row::lane(row);
-    let serial = row::serial(row);
-    let clock = row::clock(row);
+    let head = row::read_head(row);
+    let lane = head.lane;
+    let serial = head.serial;
+    let clock = head.clock;
     let e = own_entry(f, lane);
     let order = (f.kind == Frame::ORDER)
         & ((f.lane as u16) == lane)
@@ -182,7 +186,8 @@ pub(crate) fn take(row: &mut [u16], f: Frame) -> Frame
     ensures known { λ _. ⌜ knownIn (now (row .exit)) ≡ knownIn (now (row .entry)) ⌝ }
     ensures past { λ _. ⌜ pastIn (now (row .exit)) ≡ pastIn (now (row .entry)) ⌝ }
 {
-    let sender = row::lane(row) as u8;
+    let head = row::read_head(row);
+    let sender = head.lane as u8;
     keep_and_tick(row, f);
     let entries = newest::newest_entries(row);
     let serial = f.serial;
@@ -205,9 +210,10 @@ fn keep_and_tick(row: &mut [u16], f: Frame)
     ensures known { λ _. ⌜ knownIn (now (row .exit)) ≡ knownIn (now (row .entry)) ⌝ }
     ensures past { λ _. ⌜ pastIn (now (row .exit)) ≡ pastIn (now (row .entry)) ⌝ }
 {
-    let source = cells::has(row::sources(row), row::lane(row));
-    let serial = row::serial(row);
-    let reached = cells::later(row::clock(row), f.stamp);
+    let head = row::read_head(row);
+    let source = cells::has(head.sources, head.lane);
+    let serial = head.serial;
+    let reached = cells::later(head.clock, f.stamp);
     row::keep(row, f.lane, f.serial, f.stamp, f.word);
     if source {
         row::tick(row, serial, Stamp(reached.0 + 1));

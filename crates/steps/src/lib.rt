@@ -131,8 +131,9 @@ pub fn beacon(row: &[u16]) -> Beaconed
     ensures { λ r. ⌜ r ≡ beaconStep (postIn (now (row .entry))) ⌝ }
     ensures number { λ r. ⌜ beaconNumber (r .answer) ≡ beaconRefusal (postIn (now (row .entry))) ⌝ }
 {
-    let lane = row::lane(row);
-    if !cells::has(row::posts(row), lane) {
+    let head = row::read_head(row);
+    let lane = head.lane;
+    if !cells::has(head.posts, lane) {
         let none = Frame::none();
         return Beaconed {
             answer: BeaconAnswer::Refused(21),

@@ -1,9 +1,11 @@
+use Rattle.row.specs.declared.Head.{Head}
+use mathlib.Core.Path.{ap}
 use borrow.Author.Needs.{needs}
 use Rattle.steps.proofs.hearing.beyond_own.Statement.{statement}
 use Rattle.steps.proofs.hearing.beyond_own.Tie as tie
 
 returns : tie.Need-returns
-returns c = rw (c .before .before .before .before .before .before .before .before .before .own-entry .ensures, c .before .before .before .before .before .before .before .before .before .before .before .before .lane .ensures, ← c .before .before .before .before .before .before .before .before .before .before .before .serial .ensures, ← c .before .before .before .before .before .before .before .before .before .before .clock .ensures)
+returns c = rw (c .before .before .before .before .before .before .before .before .before .own-entry .ensures, ap (λ (h : Head). h .lane) (c .before .before .before .before .before .before .before .before .before .before .before .before .read-head .ensures), ← ap (λ (h : Head). h .serial .0) (c .before .before .before .before .before .before .before .before .before .before .before .before .read-head .ensures), ← ap (λ (h : Head). h .clock .0) (c .before .before .before .before .before .before .before .before .before .before .before .before .read-head .ensures))
 
 pub beyond-own-spec : {M : Type 1} → statement M
-beyond-own-spec = tie.close (tie.spec (λ c κs. tt) (λ c κs. tt) (λ c κs. tt) (λ c κs. tt) (λ c. search needs) (λ c. search needs) (λ c. search needs) returns)
+beyond-own-spec = tie.close (tie.spec (λ c κs. tt) (λ c κs. tt) (λ c. search needs) (λ c. search needs) (λ c. search needs) returns)

@@ -48,14 +48,14 @@ pub(crate) fn least_of(row: &[u16]) -> Least
     requires { do ⌜ 543 ≤ (← ⟦row.len()⟧) ⌝ }
     ensures { λ r. ⌜ r ≡ leastBelow (postIn (now (row .entry)) .sources) (postIn (now (row .entry)) .last) (postIn (now (row .entry)) .table) 8 ⌝ }
 {
-    let head = row::read_head(row);
+    let numbers = row::read_numbers(row);
     let mut least = Least {
         some: false,
         stamp: Stamp(0),
     };
     for i in 0..row::LANES {
         let heard = heard_under(row, i, last_of(row, i));
-        least = lower(least, cells::has(head.sources, i), heard);
+        least = lower(least, cells::has(numbers.sources, i), heard);
     }
     least
 }

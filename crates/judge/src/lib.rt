@@ -27,8 +27,8 @@ pub fn refusal(row: &mut [u16]) -> u8
     if row.len() < row::LENGTH {
         return 12;
     }
-    let head = row::read_head(row);
-    let n = log::at_most_128(head.logged);
+    let numbers = row::read_numbers(row);
+    let n = log::at_most_128(numbers.logged);
     let numbers = bad_numbers(row);
     let orders = orders::bad_orders(&row[6..14], &row[158..286], &row[286..414]);
     if numbers | orders | log::bad_unused(&row[414..542], n) {
@@ -47,13 +47,13 @@ fn bad_numbers(row: &[u16]) -> bool
     requires { do ⌜ 543 ≤ (← ⟦row.len()⟧) ⌝ }
     ensures { λ r. ⌜ r ≡ badNumbers (postIn (now (row .entry))) ⌝ }
 {
-    let head = row::read_head(row);
-    let lane = head.lane;
-    let serial = head.serial;
-    let logged = head.logged;
+    let numbers = row::read_numbers(row);
+    let lane = numbers.lane;
+    let serial = numbers.serial;
+    let logged = numbers.logged;
     let own = row::get_in(row, row::LAST, 8, lane as usize);
     let last = bad_last(&row[6..14]);
-    let roles = bad_roles(head.posts, head.sources, head.dests);
+    let roles = bad_roles(numbers.posts, numbers.sources, numbers.dests);
     (7 < lane) | (16 < serial.0) | (128 < logged) | last | roles | !(serial.0 == own)
 }
 

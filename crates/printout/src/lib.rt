@@ -41,9 +41,9 @@ fn put_refusal(buffer: &mut [u8], at: usize, label: &[u8], line: u16, number: u8
 pub fn put_post(buffer: &mut [u8], at: usize, lane: u16, row: &[u16]) -> usize
     ensures { λ r. ⌜ out (now (buffer .exit)) r ≡ wrote (out (now (buffer .entry)) at) (postText lane (postIn (now (row .entry)))) ⌝ }
 {
-    let head = row::read_head(row);
-    let clock = head.clock;
-    let serial = head.serial;
+    let numbers = row::read_numbers(row);
+    let clock = numbers.clock;
+    let serial = numbers.serial;
     let a = put_head(buffer, at, lane, clock.0, serial.0);
     let a = put_items(buffer, a, row);
     put_text(buffer, a, b"))\n")
@@ -63,8 +63,8 @@ fn put_head(buffer: &mut [u8], at: usize, lane: u16, clock: u16, sent: u16) -> u
 fn put_items(buffer: &mut [u8], at: usize, row: &[u16]) -> usize
     ensures { λ r. ⌜ out (now (buffer .exit)) r ≡ wrote (out (now (buffer .entry)) at) (itemsOf (postIn (now (row .entry))) (postIn (now (row .entry)) .logged)) ⌝ }
 {
-    let head = row::read_head(row);
-    let n = head.logged as usize;
+    let numbers = row::read_numbers(row);
+    let n = numbers.logged as usize;
     let cells = log_cells(row);
     let mut a = at;
     let mut k = 0usize;

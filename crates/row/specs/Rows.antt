@@ -7,7 +7,7 @@ use lib.Dec.{ltb}
 use lib.ListN.{getD, set, take, drop}
 use Rattle.cells.specs.Tables.{entryPlace}
 use Rattle.post.specs.declared.Post.{Post}
-use Rattle.row.specs.declared.Head.{Head}
+use Rattle.row.specs.declared.Numbers.{Numbers}
 
 -- the n cells from `first` on
 unfoldable pub part : List ℕ → ℕ → ℕ → List ℕ
@@ -35,8 +35,8 @@ postIn row = record {
 }
 
 -- its numbers alone
-abbrev pub headOf : Post → Head
-headOf p = record {
+abbrev pub numbersOf : Post → Numbers
+numbersOf p = record {
   lane = p .lane;
   posts = p .posts;
   sources = p .sources;

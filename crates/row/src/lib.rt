@@ -9,13 +9,13 @@ ghost use lib.ListN.{getD, set};
 ghost use Rattle.cells.specs.Tables.{entryPlace, orderPlace};
 ghost use Rattle.post.specs.Record.{lastOf, withLog};
 ghost use Rattle.post.specs.Taking.{kept};
-ghost use Rattle.row.specs.Rows.{part, putIn, postIn, knownIn, pastIn, headOf, tickedRow};
+ghost use Rattle.row.specs.Rows.{part, putIn, postIn, knownIn, pastIn, numbersOf, tickedRow};
 
 // A serial as a cell holds it: in a row that somebody made up it may be any number of 16 bits.
 pub struct SerialCell(pub u16);
 
 // The numbers of a record: lane, sets of lanes, clock, own serial, and the length of the log.
-pub struct Head {
+pub struct Numbers {
     pub lane: u16,
     pub posts: u16,
     pub sources: u16,
@@ -103,10 +103,10 @@ pub fn put_in(row: &mut [u16], first: u16, n: u16, i: usize, v: u16)
 }
 
 // The numbers of a record.
-pub fn read_head(row: &[u16]) -> Head
-    ensures { λ r. ⌜ r ≡ headOf (postIn (now (row .entry))) ⌝ }
+pub fn read_numbers(row: &[u16]) -> Numbers
+    ensures { λ r. ⌜ r ≡ numbersOf (postIn (now (row .entry))) ⌝ }
 {
-    Head {
+    Numbers {
         lane: get(row, LANE),
         posts: get(row, POSTS),
         sources: get(row, SOURCES),

@@ -42,9 +42,9 @@ pub(crate) fn refusal(row: &[u16], f: Frame, last: SerialCell, next: bool) -> u8
     requires { ⌜ (last .0 ≡ lastOf (postIn (now row)) (f .lane)) × (next ≡ isNext f (last .0)) ⌝ }
     ensures { λ r. ⌜ r ≡ hearRefusal (postIn (now (row .entry))) f ⌝ }
 {
-    let head = row::read_head(row);
-    let lane = head.lane;
-    if !cells::has(head.posts, lane) {
+    let numbers = row::read_numbers(row);
+    let lane = numbers.lane;
+    if !cells::has(numbers.posts, lane) {
         return 21;
     }
     if clock_passes(row, f, next) {
@@ -72,9 +72,9 @@ fn clock_passes(row: &[u16], f: Frame, next: bool) -> bool
     if !next {
         return false;
     }
-    let head = row::read_head(row);
-    let source = cells::has(head.sources, head.lane);
-    let reached = cells::later(head.clock, f.stamp);
+    let numbers = row::read_numbers(row);
+    let source = cells::has(numbers.sources, numbers.lane);
+    let reached = cells::later(numbers.clock, f.stamp);
     source & (Post::CLOCK_LIMIT <= reached.0)
 }
 
@@ -82,9 +82,9 @@ fn clock_passes(row: &[u16], f: Frame, next: bool) -> bool
 fn strange_frame(row: &[u16], f: Frame) -> bool
     ensures { λ r. ⌜ r ≡ strange (postIn (now (row .entry))) f ⌝ }
 {
-    let head = row::read_head(row);
-    let sources = head.sources;
-    let inside = cells::has(head.posts, f.sender as u16);
+    let numbers = row::read_numbers(row);
+    let sources = numbers.sources;
+    let inside = cells::has(numbers.posts, f.sender as u16);
     let source = cells::has(sources, f.lane as u16);
     !inside | ((f.kind == Frame::ORDER) & !source) | strange_entries(sources, f)
 }
@@ -123,10 +123,10 @@ fn not_above(row: &[u16], f: Frame, last: SerialCell, next: bool) -> bool
 fn beyond_own(row: &[u16], f: Frame) -> bool
     ensures { λ r. ⌜ r ≡ beyondOwn (postIn (now (row .entry))) f ⌝ }
 {
-    let head = row::read_head(row);
-    let lane = head.lane;
-    let serial = head.serial;
-    let clock = head.clock;
+    let numbers = row::read_numbers(row);
+    let lane = numbers.lane;
+    let serial = numbers.serial;
+    let clock = numbers.clock;
     let e = own_entry(f, lane);
     let order = (f.kind == Frame::ORDER)
         & ((f.lane as u16) == lane)
@@ -186,8 +186,8 @@ pub(crate) fn take(row: &mut [u16], f: Frame) -> Frame
     ensures known { λ _. ⌜ knownIn (now (row .exit)) ≡ knownIn (now (row .entry)) ⌝ }
     ensures past { λ _. ⌜ pastIn (now (row .exit)) ≡ pastIn (now (row .entry)) ⌝ }
 {
-    let head = row::read_head(row);
-    let sender = head.lane as u8;
+    let numbers = row::read_numbers(row);
+    let sender = numbers.lane as u8;
     keep_and_tick(row, f);
     let entries = newest::newest_entries(row);
     let serial = f.serial;
@@ -210,10 +210,10 @@ fn keep_and_tick(row: &mut [u16], f: Frame)
     ensures known { λ _. ⌜ knownIn (now (row .exit)) ≡ knownIn (now (row .entry)) ⌝ }
     ensures past { λ _. ⌜ pastIn (now (row .exit)) ≡ pastIn (now (row .entry)) ⌝ }
 {
-    let head = row::read_head(row);
-    let source = cells::has(head.sources, head.lane);
-    let serial = head.serial;
-    let reached = cells::later(head.clock, f.stamp);
+    let numbers = row::read_numbers(row);
+    let source = cells::has(numbers.sources, numbers.lane);
+    let serial = numbers.serial;
+    let reached = cells::later(numbers.clock, f.stamp);
     row::keep(row, f.lane, f.serial, f.stamp, f.word);
     if source {
         row::tick(row, serial, Stamp(reached.0 + 1));

@@ -131,9 +131,9 @@ pub fn beacon(row: &[u16]) -> Beaconed
     ensures { λ r. ⌜ r ≡ beaconStep (postIn (now (row .entry))) ⌝ }
     ensures number { λ r. ⌜ beaconNumber (r .answer) ≡ beaconRefusal (postIn (now (row .entry))) ⌝ }
 {
-    let head = row::read_head(row);
-    let lane = head.lane;
-    if !cells::has(head.posts, lane) {
+    let numbers = row::read_numbers(row);
+    let lane = numbers.lane;
+    if !cells::has(numbers.posts, lane) {
         let none = Frame::none();
         return Beaconed {
             answer: BeaconAnswer::Refused(21),

@@ -19,14 +19,14 @@ const ORDERS: u16 = Serial::LAST as u16;
 pub(crate) fn refusal(row: &[u16]) -> u8
     ensures { λ r. ⌜ r ≡ orderRefusal (postIn (now (row .entry))) ⌝ }
 {
-    let head = row::read_head(row);
-    let lane = head.lane;
-    let clock = head.clock;
-    let serial = head.serial;
+    let numbers = row::read_numbers(row);
+    let lane = numbers.lane;
+    let clock = numbers.clock;
+    let serial = numbers.serial;
     let number = cells::pick(Post::CLOCK_LIMIT <= clock.0, 24, 0);
     let number = cells::pick(ORDERS <= serial.0, 23, number);
-    let number = cells::pick(!cells::has(head.sources, lane), 22, number);
-    cells::pick(!cells::has(head.posts, lane), 21, number)
+    let number = cells::pick(!cells::has(numbers.sources, lane), 22, number);
+    cells::pick(!cells::has(numbers.posts, lane), 21, number)
 }
 
 // The post takes its own order, and broadcasts it.
@@ -37,10 +37,10 @@ pub(crate) fn send(row: &mut [u16], word: u16) -> Frame
     ensures known { λ _. ⌜ knownIn (now (row .exit)) ≡ knownIn (now (row .entry)) ⌝ }
     ensures past { λ _. ⌜ pastIn (now (row .exit)) ≡ pastIn (now (row .entry)) ⌝ }
 {
-    let head = row::read_head(row);
-    let lane = head.lane as u8;
-    let own = head.serial;
-    let clock = head.clock;
+    let numbers = row::read_numbers(row);
+    let lane = numbers.lane as u8;
+    let own = numbers.serial;
+    let clock = numbers.clock;
     let serial = Serial((own.0 + 1) as u8);
     let stamp = Stamp(clock.0 + 1);
     row::tick(row, SerialCell(serial.0 as u16), stamp);

@@ -37,8 +37,8 @@ pub(crate) fn frame_for(row: &[u16], air: &[u8], frames: u16, k: usize) -> Frame
 fn absent(row: &[u16], number: u8) -> u8
     ensures { λ r. ⌜ r ≡ cond (eqb number 25 && notInYard (postIn (now (row .entry)) .posts) (postIn (now (row .entry)) .lane)) 21 number ⌝ }
 {
-    let head = row::read_head(row);
-    let here = cells::has(head.posts, head.lane);
+    let numbers = row::read_numbers(row);
+    let here = cells::has(numbers.posts, numbers.lane);
     cells::pick((number == 25) & !here, 21, number)
 }
 
@@ -73,8 +73,8 @@ pub(crate) fn note_first(state: &mut [u16], lane: u8, serial: Serial, before: u1
 pub(crate) fn beacon_refusal(row: &[u16], air: &[u8], beacons: u16) -> u8
     ensures { λ r. ⌜ r ≡ stopsBeacon (now (air .entry)) (postIn (now (row .entry))) beacons ⌝ }
 {
-    let head = row::read_head(row);
-    let here = cells::has(head.posts, head.lane);
+    let numbers = row::read_numbers(row);
+    let here = cells::has(numbers.posts, numbers.lane);
     let number = cells::pick(BEACONS <= beacons, 27, 0);
     let number = cells::pick(!here, 21, number);
     cells::pick(air.len() != air::LENGTH, 13, number)

@@ -1,4 +1,4 @@
-use Rattle.row.specs.declared.Head.{Head}
+use Rattle.row.specs.declared.Numbers.{Numbers}
 use mathlib.Core.Path.{ap}
 use borrow.Author.Needs.{needs}
 use native.Mathlib.Omega.{arith}
@@ -11,17 +11,17 @@ returns c = cut-short (c .before .before .args .row .now) (omega arith)
 
 returns-2 : tie.Need-returns-2
 returns-2 c =
-    let t = tested (c .before .before .before .before .before .before .before .before .before .before .before .before .before .before .before .before .args .row .now) _ _ _ _ _ (omega (arith, c .before .before .before .before .before .before .before .before .before .before .before .before .before .before .if1 .left)) (ap (λ (h : Head). h .logged) (c .before .before .before .before .before .before .before .before .before .before .before .before .read-head .ensures)) (c .before .before .before .before .before .before .before .before .before .before .before .at-most-128 .ensures) (c .before .before .before .before .before .before .before .before .before .bad-numbers .ensures) (c .before .before .before .before .bad-orders .ensures) (c .before .bad-unused .ensures) in
+    let t = tested (c .before .before .before .before .before .before .before .before .before .before .before .before .before .before .before .before .args .row .now) _ _ _ _ _ (omega (arith, c .before .before .before .before .before .before .before .before .before .before .before .before .before .before .if1 .left)) (ap (λ (h : Numbers). h .logged) (c .before .before .before .before .before .before .before .before .before .before .before .before .read-numbers .ensures)) (c .before .before .before .before .before .before .before .before .before .before .before .at-most-128 .ensures) (c .before .before .before .before .before .before .before .before .before .bad-numbers .ensures) (c .before .before .before .before .bad-orders .ensures) (c .before .bad-unused .ensures) in
     tests-bad (c .before .before .before .before .before .before .before .before .before .before .before .before .before .before .before .before .args .row .now) _ _ _ _ t (c .if2 .taken)
 
 returns-3 : tie.Need-returns-3
 returns-3 c =
-    let t = tested (c .before .before .before .before .before .before .before .before .before .before .before .before .before .before .before .before .before .before .before .before .before .before .before .args .row .now) _ _ _ _ _ (omega (arith, c .before .before .before .before .before .before .before .before .before .before .before .before .before .before .before .before .before .before .before .before .before .if1 .left)) (ap (λ (h : Head). h .logged) (c .before .before .before .before .before .before .before .before .before .before .before .before .before .before .before .before .before .before .before .read-head .ensures)) (c .before .before .before .before .before .before .before .before .before .before .before .before .before .before .before .before .before .before .at-most-128 .ensures) (c .before .before .before .before .before .before .before .before .before .before .before .before .before .before .before .before .bad-numbers .ensures) (c .before .before .before .before .before .before .before .before .before .before .before .bad-orders .ensures) (c .before .before .before .before .before .before .before .before .bad-unused .ensures) in
+    let t = tested (c .before .before .before .before .before .before .before .before .before .before .before .before .before .before .before .before .before .before .before .before .before .before .before .args .row .now) _ _ _ _ _ (omega (arith, c .before .before .before .before .before .before .before .before .before .before .before .before .before .before .before .before .before .before .before .before .before .if1 .left)) (ap (λ (h : Numbers). h .logged) (c .before .before .before .before .before .before .before .before .before .before .before .before .before .before .before .before .before .before .before .read-numbers .ensures)) (c .before .before .before .before .before .before .before .before .before .before .before .before .before .before .before .before .before .before .at-most-128 .ensures) (c .before .before .before .before .before .before .before .before .before .before .before .before .before .before .before .before .bad-numbers .ensures) (c .before .before .before .before .before .before .before .before .before .before .before .bad-orders .ensures) (c .before .before .before .before .before .before .before .before .bad-unused .ensures) in
     used-bad (c .before .before .before .before .before .before .before .before .before .before .before .before .before .before .before .before .before .before .before .before .before .before .before .args .row .now) _ _ _ _ _ t (c .before .before .bad-used .ensures .0) (c .if3 .taken)
 
 returns-4 : tie.Need-returns-4
 returns-4 c =
-    let t = tested (c .before .before .before .before .before .before .before .before .before .before .before .before .before .before .before .before .before .before .before .before .before .before .before .before .before .before .before .before .args .row .now) _ _ _ _ _ (omega (arith, c .before .before .before .before .before .before .before .before .before .before .before .before .before .before .before .before .before .before .before .before .before .before .before .before .before .before .if1 .left)) (ap (λ (h : Head). h .logged) (c .before .before .before .before .before .before .before .before .before .before .before .before .before .before .before .before .before .before .before .before .before .before .before .before .read-head .ensures)) (c .before .before .before .before .before .before .before .before .before .before .before .before .before .before .before .before .before .before .before .before .before .before .before .at-most-128 .ensures) (c .before .before .before .before .before .before .before .before .before .before .before .before .before .before .before .before .before .before .before .before .before .bad-numbers .ensures) (c .before .before .before .before .before .before .before .before .before .before .before .before .before .before .before .before .bad-orders .ensures) (c .before .before .before .before .before .before .before .before .before .before .before .before .before .bad-unused .ensures) in
+    let t = tested (c .before .before .before .before .before .before .before .before .before .before .before .before .before .before .before .before .before .before .before .before .before .before .before .before .before .before .before .before .args .row .now) _ _ _ _ _ (omega (arith, c .before .before .before .before .before .before .before .before .before .before .before .before .before .before .before .before .before .before .before .before .before .before .before .before .before .before .if1 .left)) (ap (λ (h : Numbers). h .logged) (c .before .before .before .before .before .before .before .before .before .before .before .before .before .before .before .before .before .before .before .before .before .before .before .before .read-numbers .ensures)) (c .before .before .before .before .before .before .before .before .before .before .before .before .before .before .before .before .before .before .before .before .before .before .before .at-most-128 .ensures) (c .before .before .before .before .before .before .before .before .before .before .before .before .before .before .before .before .before .before .before .before .before .bad-numbers .ensures) (c .before .before .before .before .before .before .before .before .before .before .before .before .before .before .before .before .bad-orders .ensures) (c .before .before .before .before .before .before .before .before .before .before .before .before .before .bad-unused .ensures) in
     all-good (c .before .before .before .before .before .before .before .before .before .before .before .before .before .before .before .before .before .before .before .before .before .before .before .before .before .before .before .before .args .row .now) (c .before .before .learn .last .0) _ _ _ _ _ _ t (c .before .before .before .before .before .before .before .before .before .before .before .before .if2 .left) (c .before .before .before .before .before .before .before .bad-used .ensures .0) (c .before .before .before .before .before .if3 .left) (c .before .before .before .before .before .before .before .bad-used .ensures .1) (c .before .before .learn .ensures .0) (c .before .before .learn .ensures .1 .0) (c .before .before .learn .ensures .1 .1)
 
 pub refusal-spec : {M : Type 1} → statement M

@@ -1,11 +1,11 @@
-use Rattle.row.specs.declared.Head.{Head}
+use Rattle.row.specs.declared.Numbers.{Numbers}
 use mathlib.Core.Path.{ap}
 use borrow.Author.Needs.{needs}
 use Rattle.steps.proofs.hearing.beyond_own.Statement.{statement}
 use Rattle.steps.proofs.hearing.beyond_own.Tie as tie
 
 returns : tie.Need-returns
-returns c = rw (c .before .before .before .before .before .before .before .before .before .own-entry .ensures, ap (λ (h : Head). h .lane) (c .before .before .before .before .before .before .before .before .before .before .before .before .read-head .ensures), ← ap (λ (h : Head). h .serial .0) (c .before .before .before .before .before .before .before .before .before .before .before .before .read-head .ensures), ← ap (λ (h : Head). h .clock .0) (c .before .before .before .before .before .before .before .before .before .before .before .before .read-head .ensures))
+returns c = rw (c .before .before .before .before .before .before .before .before .before .own-entry .ensures, ap (λ (h : Numbers). h .lane) (c .before .before .before .before .before .before .before .before .before .before .before .before .read-numbers .ensures), ← ap (λ (h : Numbers). h .serial .0) (c .before .before .before .before .before .before .before .before .before .before .before .before .read-numbers .ensures), ← ap (λ (h : Numbers). h .clock .0) (c .before .before .before .before .before .before .before .before .before .before .before .before .read-numbers .ensures))
 
 pub beyond-own-spec : {M : Type 1} → statement M
 beyond-own-spec = tie.close (tie.spec (λ c κs. tt) (λ c κs. tt) (λ c. search needs) (λ c. search needs) (λ c. search needs) returns)

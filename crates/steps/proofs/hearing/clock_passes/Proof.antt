@@ -1,4 +1,4 @@
-use Rattle.row.specs.declared.Head.{Head}
+use Rattle.row.specs.declared.Numbers.{Numbers}
 use mathlib.Core.Path.{ap}
 use Rattle.steps.proofs.HearWays.{no-next, a-next}
 use borrow.Author.Needs.{needs}
@@ -9,7 +9,7 @@ returns : tie.Need-returns
 returns c = no-next (c .before .before .args .next) _ _ (c .if1 .taken)
 
 returns-2 : tie.Need-returns-2
-returns-2 c = rw (c .before .before .has .ensures, c .before .later .ensures, ap (λ (h : Head). h .sources) (c .before .before .before .read-head .ensures), ap (λ (h : Head). h .lane) (c .before .before .before .read-head .ensures), ap (λ (h : Head). h .clock .0) (c .before .before .before .read-head .ensures)) (a-next (c .before .before .before .before .before .before .args .next) _ _ (c .before .before .before .before .if1 .left))
+returns-2 c = rw (c .before .before .has .ensures, c .before .later .ensures, ap (λ (h : Numbers). h .sources) (c .before .before .before .read-numbers .ensures), ap (λ (h : Numbers). h .lane) (c .before .before .before .read-numbers .ensures), ap (λ (h : Numbers). h .clock .0) (c .before .before .before .read-numbers .ensures)) (a-next (c .before .before .before .before .before .before .args .next) _ _ (c .before .before .before .before .if1 .left))
 
 pub clock-passes-spec : {M : Type 1} → statement M
 clock-passes-spec = tie.close (tie.spec returns (λ c κs. tt) (λ c κs. tt) (λ c κs. tt) returns-2)

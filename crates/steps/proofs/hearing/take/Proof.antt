@@ -1,4 +1,4 @@
-use Rattle.row.specs.declared.Head.{Head}
+use Rattle.row.specs.declared.Numbers.{Numbers}
 use mathlib.Core.Path.{ap}
 use native.Mathlib.Omega.{arith}
 use borrow.Author.Needs.{needs}
@@ -8,10 +8,10 @@ use Rattle.steps.proofs.hearing.take.Statement.{statement}
 use Rattle.steps.proofs.hearing.take.Tie as tie
 
 cast-sender : tie.Need-cast-sender
-cast-sender c = record { fits = omega (arith, ap (λ (h : Head). h .lane) (c .before .read-head .ensures), c .before .before .before .before .pre) }
+cast-sender c = record { fits = omega (arith, ap (λ (h : Numbers). h .lane) (c .before .read-numbers .ensures), c .before .before .before .before .pre) }
 
 returns : tie.Need-returns
-returns c = (takes-frame (postIn (c .before .before .before .before .before .before .before .before .before .before .before .before .args .row .now)) (postIn (c .before .before .before .before .before .before .keep-and-tick .last .0)) (c .before .before .before .before .before .before .before .before .before .before .before .before .args .f) _ _ (ap (λ (h : Head). h .lane) (c .before .before .before .before .before .before .before .before .before .read-head .ensures)) (c .before .before .before .before .before .before .keep-and-tick .ensures .0) (c .before .before .newest-entries .ensures), (c .before .before .before .before .before .before .keep-and-tick .ensures .0, (c .before .before .before .before .before .before .keep-and-tick .ensures .1 .0, c .before .before .before .before .before .before .keep-and-tick .ensures .1 .1)))
+returns c = (takes-frame (postIn (c .before .before .before .before .before .before .before .before .before .before .before .before .args .row .now)) (postIn (c .before .before .before .before .before .before .keep-and-tick .last .0)) (c .before .before .before .before .before .before .before .before .before .before .before .before .args .f) _ _ (ap (λ (h : Numbers). h .lane) (c .before .before .before .before .before .before .before .before .before .read-numbers .ensures)) (c .before .before .before .before .before .before .keep-and-tick .ensures .0) (c .before .before .newest-entries .ensures), (c .before .before .before .before .before .before .keep-and-tick .ensures .0, (c .before .before .before .before .before .before .keep-and-tick .ensures .1 .0, c .before .before .before .before .before .before .keep-and-tick .ensures .1 .1)))
 
 pub take-spec : {M : Type 1} → statement M
 take-spec = tie.close (tie.spec (λ c κs. tt) cast-sender (λ c κs. search needs) (λ c κs. search needs) (λ c. search needs) returns)

@@ -15,7 +15,7 @@ use Rattle.deliver.specs.Delivery.{isTaken, isLogged, stampAt, isDue, duePlaces
 use Rattle.roll.specs.Runs.{Order}
 use Rattle.roll.specs.Logs.{orderAt, ordersLogged, rank, inOrder, Rising}
 use Rattle.laws.proofs.TestLaws.{true-or-false, not-both, and-made, same-or-not, below-or-not}
-use Rattle.laws.proofs.ListLaws.{Mem, RisingBy}
+use Rattle.laws.proofs.ListLaws.{Mem, RisingBy, mem-made}
 use Rattle.laws.proofs.TableLaws.{order-taken}
 use Rattle.deliver.specs.Keys.{keyAt}
 use Rattle.laws.proofs.LogLaws.{logOf, logged-mem, mem-logged, is-due, due-is, places-due, due-places, places-rise}
@@ -58,12 +58,6 @@ mem-orders f x [] m = absurd m
 mem-orders f x (y ∷ l) (inl e) = inl (ap f e)
 mem-orders f x (y ∷ l) (inr m) = inr (mem-orders f x l m)
 
--- and the other way round
-orders-mem : (f : ℕ → Order) (y : Order) (l : List ℕ) → Mem y (map f l) → (x : ℕ) × Mem x l × (y ≡ f x)
-orders-mem f y [] m = absurd m
-orders-mem f y (x ∷ l) (inl e) = (x, inl refl, e)
-orders-mem f y (x ∷ l) (inr m) = let r = orders-mem f y l m in (r .0, inr (r .1), r .2)
-
 -- ---- the due orders rise
 
 -- of two taken orders the one with the lower key ranks lower: equal stamps are of different lanes
@@ -87,7 +81,7 @@ orders-rise : (q : posts.Post) → KeptRise (postView q) → (l : List ℕ) → 
     → ((place : ℕ) → Mem place l → (place < 128) × (isTaken q place ≡ true))
     → Rising (map (orderAt q) l)
 orders-rise q c [] r h = tt
-orders-rise q c (x ∷ l) r h = (λ o m. above o (orders-mem (orderAt q) o l m), orders-rise q c l (r .1) (λ y m. h y (inr m)))
+orders-rise q c (x ∷ l) r h = (λ o m. above o (mem-made (orderAt q) o l m), orders-rise q c l (r .1) (λ y m. h y (inr m)))
   where
     above : (o : Order) → ((y : ℕ) × Mem y l × (o ≡ orderAt q y)) → rank (orderAt q x) < rank o
     above o w =
@@ -119,7 +113,7 @@ module _ (q : posts.Post) (s : Shaped q) (v : Valid q) (R : Roles) (sources : (i
   has-log : (place : ℕ) → has (place / 16) (place % 16 + 1) (ordersLogged q) ≡ true → isLogged q place ≡ true
   has-log place e =
       let r = has-mem (place / 16) (place % 16 + 1) (ordersLogged q) e in
-      let w = orders-mem (orderAt q) (r .0) (logOf q) (r .1) in
+      let w = mem-made (orderAt q) (r .0) (logOf q) (r .1) in
       let lane : w .0 / 16 ≡ place / 16 = sym (ap (λ (o : Order). o .lane) (w .2)) ∙ r .2 in
       let serial : w .0 % 16 + 1 ≡ place % 16 + 1 = sym (ap (λ (o : Order). o .serial) (w .2)) ∙ r .3 in
       let same : w .0 ≡ place = omega arith in
@@ -182,7 +176,7 @@ module _ (q : posts.Post) (s : Shaped q) (v : Valid q) (R : Roles) (sources : (i
       unique (map (orderAt q) (duePlaces q)) (inOrder (due R (postView q)))
       (orders-rise q c (duePlaces q) (places-rise q) (λ place m. let d = places-due q place m in (d .0, is-due q place (d .1) .taken)))
       (in-order-rises (due R (postView q)) (due-apart R (postView q) c))
-      (λ x m. mem-in-order x (due R (postView q)) (there x (orders-mem (orderAt q) x (duePlaces q) m)))
+      (λ x m. mem-in-order x (due R (postView q)) (there x (mem-made (orderAt q) x (duePlaces q) m)))
       (λ x m. due-place x (in-order-mem x (due R (postView q)) m))
     where
       there : (x : Order) → ((place : ℕ) × Mem place (duePlaces q) × (x ≡ orderAt q place)) → Mem x (due R (postView q))

@@ -12,7 +12,7 @@ use Rattle.laws.specs.Lists.{Mem, Begins}
 use Rattle.roll.specs.Runs.{Order}
 use Rattle.roll.specs.Logs.{ranksLower, inOrder}
 use Rattle.meaning.specs.Texts.{itemText, itemsText}
-use Rattle.fits.proofs.Decimals.{at-most-5}
+use Rattle.scan.proofs.Decimal.{at-most-5}
 use Rattle.fits.proofs.TextLengths.{item-length}
 
 -- the most bytes that the items of some orders have

@@ -1,4 +1,3 @@
-pub mod Decimals
 pub mod TextLengths
 pub mod Beacons
 pub mod ItemLengths

@@ -18,7 +18,7 @@ use Rattle.roll.specs.Runs as runs
 use Rattle.roll.specs.Answers.{answerNumber}
 use Rattle.meaning.specs.Script.{stepOf, refusalOf}
 use Rattle.laws.proofs.TestLaws.{same-or-not, below-or-not}
-use Rattle.fits.proofs.Decimals.{at-most-5}
+use Rattle.scan.proofs.Decimal.{at-most-5}
 use Rattle.fits.proofs.TextLengths.{printed, printed-none, printed-19, printed-18, printed-17}
 use Rattle.fits.proofs.ItemLengths.{itemsMost}
 use Rattle.fits.proofs.Beacons.{single-sends, roll-number, refused-none, roll-sends}

@@ -12,7 +12,7 @@ use Rattle.lines.specs.Lines.{lineAt, numberOf, nextOf}
 use Rattle.written.specs.Written.{lineText, Right}
 use Rattle.written.specs.Exact.{Stands}
 use Rattle.written.proofs.Theorem.{exact}
-use Rattle.fits.proofs.Decimals.{at-least-1}
+use Rattle.scan.proofs.Decimal.{at-least-1}
 
 -- at least so many; after a refused line nothing is read
 abbrev pub least : Line → ℕ

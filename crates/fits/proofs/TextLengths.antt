@@ -15,7 +15,7 @@ use Rattle.yard.specs.Yards.{postAt}
 use Rattle.roll.specs.Runs.{Order}
 use Rattle.roll.specs.Logs.{ordersLogged}
 use Rattle.meaning.specs.Texts.{badText, refusedText, itemText, itemsText, postText, postsText}
-use Rattle.fits.proofs.Decimals.{at-most-5, at-most-4, at-most-3, at-most-2, at-most-1}
+use Rattle.scan.proofs.Decimal.{at-most-5, at-most-4, at-most-3, at-most-2, at-most-1}
 
 -- ---- a line for a refused script, and for a refused step
 

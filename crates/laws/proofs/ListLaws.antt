@@ -1,6 +1,6 @@
 -- Lists: members, nothing twice, rising, beginnings, and how long a list without repetition can be. Assumes nothing.
 use mathlib.Core.Path.{_≡_, refl, sym, ap, _∙_}
-use mathlib.Core.List.{List, [], _∷_, _++_, append-nil, append-assoc}
+use mathlib.Core.List.{List, [], _∷_, _++_, map, append-nil, append-assoc}
 use mathlib.Core.Logic.{_⊎_, inl, inr, _≢_}
 use Prim.Native.Nat.{ℕ, zero, suc, _+_, _≤_, _<_}
 use native.Mathlib.Omega.{arith}
@@ -94,6 +94,15 @@ module _ {A : Type 0} where
   pub rising-once : (key : A → ℕ) (l : List A) → RisingBy key l → NoRepeat l
   rising-once key [] r = tt
   rising-once key (x ∷ l) r = (λ m. omega (arith, r .0 x m), rising-once key l (r .1))
+
+-- ---- lists made from lists
+
+module _ {A B : Type 0} where
+  -- a member is made from a member
+  pub mem-made : (f : A → B) (y : B) (l : List A) → Mem y (map f l) → (x : A) × Mem x l × (y ≡ f x)
+  mem-made f y [] m = absurd m
+  mem-made f y (x ∷ l) (inl e) = (x, inl refl, e)
+  mem-made f y (x ∷ l) (inr m) = let r = mem-made f y l m in (r .0, inr (r .1), r .2)
 
 -- ---- numbers written one after another into a list
 

@@ -7,24 +7,13 @@ use scan::fail;
 use scan::read_number;
 use scan::read_text;
 use scan::stands_at;
+use scan::start_at;
 ghost use mathlib.Core.Path.{_≡_};
 ghost use mathlib.Core.Bool.{cond, _&&_};
 ghost use lib.ListN.{length};
 ghost use Rattle.text.specs.Bytes.{bytes};
 ghost use Rattle.scan.specs.Scan.{stands, startAt, failed};
 ghost use Rattle.lines.specs.Forms.{orderForm, hearForm, beaconForm, rollForm, readForm, asRole, orRole, readRole, readPost, bitOf, postAdded, postsRead, noPosts, scanOf, ended, yardPosts, readYard};
-
-// A line is read from a place on.
-fn start_at(at: usize) -> Scan
-    ensures { λ r. ⌜ r ≡ startAt at ⌝ }
-{
-    Scan {
-        ok: true,
-        at: at,
-        earlier: 0,
-        latest: 0,
-    }
-}
 
 // `(order LANE WORD)`
 pub(crate) fn read_order(s: &[u8], at: usize) -> Scan

@@ -28,13 +28,12 @@ unfolding digitAt
 digit-mid s at x e l h = rw (← e, le-leb _ _ l, le-leb _ _ h)
 
 -- a digit does not stand past the end
+pub digit-past : (s : List ℕ) (at : ℕ) → length s ≤ at → digitAt s at ≡ 10
+digit-past s at h = sym (digit-low s at 0 (sym (List·getD-eq-default s 0 h)) (omega arith))
+
 pub digit-in : (s : List ℕ) (at : ℕ) → digitAt s at < 10 → at < length s
-unfolding digitAt
 digit-in s at h = go (ltb at (length s)) refl
   where
     go : (b : Bool) → ltb at (length s) ≡ b → at < length s
     go true e = ltb-true _ _ e
-    go false e =
-        let z : getD s at 0 ≡ 0 = List·getD-eq-default s 0 (ltb-false _ _ e) in
-        let d : 10 ≡ digitAt s at = digit-low s at 0 (sym z) (omega arith) in
-        absurd (omega arith)
+    go false e = absurd (omega (arith, digit-past s at (ltb-false _ _ e)))

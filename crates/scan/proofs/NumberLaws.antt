@@ -1,4 +1,4 @@
--- Laws of reading a number digit by digit: Scan.antt of the crate `lines`. Assumes nothing.
+-- Laws of reading a number digit by digit: Scan.antt. Assumes nothing.
 use mathlib.Core.Path.{_≡_, refl, ap, sym, _∙_}
 use mathlib.Core.Bool.{Bool, true, false, not, _&&_}
 use mathlib.Core.List.{List}

@@ -1,4 +1,4 @@
--- Laws of reading texts and numbers: Scan.antt of the crate `lines`. Assumes nothing.
+-- Laws of reading texts: Scan.antt. Assumes nothing.
 use mathlib.Core.Path.{_≡_, refl, ap, ap₂, sym, _∙_}
 use mathlib.Core.Bool.{Bool, true, false, cond, not, _&&_}
 use mathlib.Core.List.{List}
@@ -47,9 +47,9 @@ pub stands-past : (s t : List ℕ) (at : ℕ) → length s < at + length t → f
 unfolding stands
 stands-past s t at h = rw (lt-leb _ _ h)
 
-pub stands-here : (s t : List ℕ) (at : ℕ) (r : Bool) → at + length t ≤ length s → r ≡ sameBytes s at t → r ≡ stands s at t
+pub stands-fits : (s t : List ℕ) (at : ℕ) (r : Bool) → at + length t ≤ length s → r ≡ sameBytes s at t → r ≡ stands s at t
 unfolding stands
-stands-here s t at r h e = rw (le-leb _ _ h) e
+stands-fits s t at r h e = rw (le-leb _ _ h) e
 
 -- what stands somewhere does not run past the end
 pub stands-in : (s t : List ℕ) (at : ℕ) → stands s at t ≡ true → at + length t ≤ length s

@@ -5,7 +5,7 @@ ghost use mathlib.Core.Bool.{true, _&&_};
 ghost use Prim.Native.Nat.{_+_, _≤_, _<_};
 ghost use lib.Dec.{leb};
 ghost use lib.ListN.{length, getD};
-ghost use Rattle.scan.specs.Scan.{sameBytes, stands, failed, readText, firstDigit, nextDigit, readNumber};
+ghost use Rattle.scan.specs.Scan.{sameBytes, stands, startAt, failed, readText, firstDigit, nextDigit, readNumber};
 
 // How far a text was read: whether all was of the form so far, the place reached, and the last two numbers read.
 pub struct Scan {
@@ -13,6 +13,18 @@ pub struct Scan {
     pub at: usize,
     pub earlier: u32,
     pub latest: u32,
+}
+
+// A text is read from a place on.
+pub fn start_at(at: usize) -> Scan
+    ensures { λ r. ⌜ r ≡ startAt at ⌝ }
+{
+    Scan {
+        ok: true,
+        at: at,
+        earlier: 0,
+        latest: 0,
+    }
 }
 
 // What stands at a place, and 0 past the end.

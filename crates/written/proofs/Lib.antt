@@ -1,6 +1,4 @@
-pub mod Here
-pub mod Decimal
-pub mod Number
+pub mod Parts
 pub mod Forms
 pub mod Steps
 pub mod Sound

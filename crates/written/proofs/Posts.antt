@@ -13,9 +13,9 @@ use Rattle.scan.specs.declared.Scan.{Scan}
 use Rattle.scan.specs.Scan.{readText, readNumber, startAt, failed}
 use Rattle.lines.specs.Forms.{asRole, orRole, readRole, readPost}
 use Rattle.scan.proofs.Laws.{never}
-use Rattle.written.proofs.Here.{Here, here-head, here-join, here-split}
-use Rattle.written.proofs.Number.{done, number-sound}
-use Rattle.written.proofs.Forms.{text-sound, text-complete, no-digit, text-step, number-step, text-back, number-back}
+use Rattle.scan.proofs.Here.{Here, here-head, here-join, here-split}
+use Rattle.scan.proofs.Number.{done, number-sound}
+use Rattle.scan.proofs.Reading.{text-sound, text-complete, no-digit, text-step, number-step, text-back, number-back}
 
 -- ---- a role
 

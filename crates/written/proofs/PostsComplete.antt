@@ -16,7 +16,7 @@ use Rattle.lines.specs.declared.YardScan.{YardScan}
 use Rattle.scan.specs.Scan.{stands}
 use Rattle.lines.specs.Forms.{readPost, bitOf, postAdded, postsRead}
 use Rattle.written.specs.Written.{roleText, postTexts, Roles}
-use Rattle.written.proofs.Here.{Here, here-split, here-stands, stands-here, here-head}
+use Rattle.scan.proofs.Here.{Here, here-split, here-stands, stands-here, here-head}
 use Rattle.written.proofs.Posts.{roleName, postText, post-complete}
 use Rattle.written.proofs.Sets.{bit-is, low-more, low-all}
 use Rattle.written.proofs.Texts.{withLane, isSource, isDest, no-role, post-yes, post-no}

@@ -15,8 +15,8 @@ use Rattle.scan.specs.Scan.{stands}
 use Rattle.lines.specs.Forms.{readPost, bitOf, postAdded, postsRead}
 use Rattle.written.specs.Written.{postTexts, Roles}
 use Rattle.scan.proofs.Laws.{both}
-use Rattle.written.proofs.Here.{Here, here-join}
-use Rattle.written.proofs.Number.{done}
+use Rattle.scan.proofs.Here.{Here, here-join}
+use Rattle.scan.proofs.Number.{done}
 use Rattle.written.proofs.Posts.{roleName, postText, post-sound}
 use Rattle.written.proofs.Sets.{bit-is, bit-lt}
 use Rattle.written.proofs.Texts.{withLane, isSource, isDest, texts-with, roles-with}

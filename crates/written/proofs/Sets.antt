@@ -13,7 +13,7 @@ use Rattle.cells.specs.Sets.{hasLane}
 use Rattle.scan.specs.Scan.{allBelow}
 use Rattle.lines.specs.Forms.{bitOf}
 use Rattle.scan.proofs.Laws.{never}
-use Rattle.written.proofs.Here.{all-at}
+use Rattle.scan.proofs.Here.{all-at}
 
 -- two binary digits joined
 bit-or : (x y : ℕ) → x < 2 → y < 2 → eqb (bitOr x y) 1 ≡ (eqb x 1 || eqb y 1)

@@ -15,8 +15,9 @@ use Rattle.lines.specs.Forms.{readForm, orderForm, hearForm, beaconForm, rollFo
 use Rattle.lines.specs.Lines.{lineAt, hearOr, beaconOr, rollOr, yardOr, orderLine, hearLine, beaconLine, rollLine, stepLineRefusal, numberOf, nextOf}
 use Rattle.written.specs.Written.{lineText, Right}
 use Rattle.lines.proofs.Laws.{step-right}
-use Rattle.written.proofs.Here.{Here}
-use Rattle.written.proofs.Forms.{text-sound, one-sound, two-sound, text1, text2}
+use Rattle.scan.proofs.Here.{Here}
+use Rattle.scan.proofs.Reading.{text-sound}
+use Rattle.written.proofs.Forms.{one-sound, two-sound, text1, text2}
 
 -- a line that stands at a place as it is written
 unfoldable pub Written : List ℕ → ℕ → Line → Type 0

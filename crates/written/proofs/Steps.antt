@@ -13,9 +13,10 @@ use Rattle.lines.specs.declared.Line.the-variants.{Order, Hear, Beacon, Roll}
 use Rattle.scan.specs.Scan.{readText, readNumber, startAt}
 use Rattle.lines.specs.Forms.{Item, text, number, readItems, readForm, orderForm, hearForm, beaconForm, rollForm}
 use Rattle.lines.specs.Lines.{lineAt, hearOr, beaconOr, rollOr, yardOr, orderLine, hearLine, beaconLine, rollLine, stepLineRefusal}
-use Rattle.written.proofs.Here.{Here, here-at}
-use Rattle.written.proofs.Number.{done, number-sound}
-use Rattle.written.proofs.Forms.{text-sound, text-complete, text1, text2, one-complete, two-complete}
+use Rattle.scan.proofs.Here.{Here, here-at}
+use Rattle.scan.proofs.Number.{done, number-sound}
+use Rattle.scan.proofs.Reading.{text-sound, text-complete}
+use Rattle.written.proofs.Forms.{text1, text2, one-complete, two-complete}
 
 -- ---- a line has one form
 

@@ -9,7 +9,8 @@ use Rattle.lines.specs.declared.Line.the-variants.{Yard, Order, Hear, Beacon, R
 use Rattle.lines.specs.Lines.{lineAt, numberOf, nextOf}
 use Rattle.written.specs.Written.{lineText, Right}
 use Rattle.written.specs.Exact.{Stands, Exact}
-use Rattle.written.proofs.Here.{Here, here-part, part-here}
+use Rattle.scan.proofs.Here.{Here}
+use Rattle.written.proofs.Parts.{here-part, part-here}
 use Rattle.written.proofs.Steps.{order-complete, hear-complete, beacon-complete, roll-complete}
 use Rattle.written.proofs.Sound.{Written}
 use Rattle.written.proofs.Yard.{sound, yard-complete}

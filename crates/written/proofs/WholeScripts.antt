@@ -14,7 +14,8 @@ use Rattle.lines.specs.declared.Line.the-variants.{Yard, Order, Hear, Beacon, R
 use Rattle.lines.specs.Lines.{lineAt, numberOf, nextOf, linesFrom, linesOf, judgedLines, judged}
 use Rattle.written.specs.Written.{lineText, Right}
 use Rattle.written.specs.WholeScripts.{textOf, followedAt, laid, RightSteps, WholeScripts}
-use Rattle.written.proofs.Here.{Here, here-split, part-here}
+use Rattle.scan.proofs.Here.{Here, here-split}
+use Rattle.written.proofs.Parts.{part-here}
 use Rattle.written.proofs.Theorem.{line-reads, line-some, exact}
 use Rattle.written.proofs.LineLists.{lines-one, lines-none, lines-more}
 

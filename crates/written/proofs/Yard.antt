@@ -16,9 +16,9 @@ use Rattle.lines.specs.Forms.{readPost, postAdded, postsRead, noPosts, scanOf, 
 use Rattle.lines.specs.Lines.{lineAt, yardOr, yardLineRefusal, yardLine, numberOf}
 use Rattle.written.specs.Written.{postTexts, lineText, Right}
 use Rattle.scan.proofs.Laws.{both}
-use Rattle.written.proofs.Here.{Here, here-at, here-join, here-split}
-use Rattle.written.proofs.Number.{done}
-use Rattle.written.proofs.Forms.{text-sound, text-complete}
+use Rattle.scan.proofs.Here.{Here, here-at, here-join, here-split}
+use Rattle.scan.proofs.Number.{done}
+use Rattle.scan.proofs.Reading.{text-sound, text-complete}
 use Rattle.written.proofs.Steps.{yard-only}
 use Rattle.written.proofs.Sound.{Written, Sound, line-sound}
 use Rattle.written.proofs.PostsSound.{Posts, ReadPosts, posts-sound, no-posts}

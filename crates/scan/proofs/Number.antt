@@ -7,12 +7,12 @@ use native.Mathlib.Omega.{arith}
 use lib.Dec.{ltb, leb}
 use lib.ListN.{length, getD, length-append}
 use borrow.Author.Tests.{leb-true, ltb-true, ltb-false, lt-ltb}
 use Rattle.scan.specs.Scan.{digitAt, failed, firstDigit, nextDigit, readNumber}
 use Rattle.scan.specs.declared.Scan.{Scan}
 use Rattle.scan.proofs.Laws.{never, both, digit-in, digit-mid}
 use Rattle.text.specs.Decimal.{decimal}
-use Rattle.written.proofs.Here.{Here, here-one, here-head, here-join, here-split}
-use Rattle.written.proofs.Decimal.{decimal-digit, decimal-more}
+use Rattle.scan.proofs.Here.{Here, here-one, here-head, here-join, here-split}
+use Rattle.scan.proofs.Decimal.{decimal-digit, decimal-more}
 
 -- a scan that has read up to a place
 abbrev pub done : ℕ → ℕ → ℕ → Scan

@@ -10,9 +10,8 @@ use lib.Dec.{eqb, ltb, leb}
 use lib.ListN.{length, getD, take, drop, length-append, length-drop, List·getD-append}
 use lib.Seq.{getD-append-add, getD-take, getD-drop, ext-getD, length-take-le}
 use borrow.Author.Tests.{eqb-true, eq-eqb, leb-true, le-leb, ltb-true, ltb-false}
 use Rattle.scan.specs.Scan.{allBelow, sameBytes, stands}
-use Rattle.written.specs.Exact.{Stands}
 use Rattle.scan.proofs.Laws.{both}
 
 unfoldable pub Here : List ℕ → ℕ → List ℕ → Type 0
 Here s at t = (at + length t ≤ length s) × ((i : ℕ) → i < length t → getD s (at + i) 0 ≡ getD t i 0)
@@ -75,16 +74,3 @@ here-head s t at x h = let q : at + 0 ≡ at = omega arith in rw q at (h .1 0 (o
 pub here-at : (s t : List ℕ) (at i : ℕ) → Here s at t → i < length t → getD s (at + i) 0 ≡ getD t i 0
 unfolding Here
 here-at s t at i h l = h .1 i l
-
--- the same, said with a part of the text
-pub here-part : (s t : List ℕ) (at : ℕ) → Here s at t → Stands s at t
-unfolding Here
-here-part s t at h =
-    let d = length-drop at s in
-    let n = length-take-le (length t) (drop at s) (omega arith) in
-    (h .0, ext-getD 0 (take (length t) (drop at s)) t n (λ i l. getD-take (length t) (drop at s) i 0 (omega arith) ∙ getD-drop at s i 0 ∙ h .1 i (omega arith)))
-
-pub part-here : (s t : List ℕ) (at : ℕ) → Stands s at t → Here s at t
-unfolding Here
-part-here s t at h =
-    (h .0, λ i l. sym (getD-take (length t) (drop at s) i 0 l ∙ getD-drop at s i 0) ∙ ap (λ (u : List ℕ). getD u i 0) (h .1))

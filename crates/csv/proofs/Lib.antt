@@ -1,0 +1,10 @@
+pub mod Logs
+pub mod Numbers
+pub mod Short
+pub mod Laws
+pub mod SeenLaws
+pub mod Judging
+pub mod HandedLaws
+pub mod ReadLaws
+pub mod Finding
+pub mod Entries

@@ -19,9 +19,13 @@ badText line number = bytes "(bad " ++ decimal line ++ bytes " " ++ decimal numb
 unfoldable pub refusedText : ℕ → ℕ → List ℕ
 refusedText line number = bytes "(refused " ++ decimal line ++ bytes " " ++ decimal number ++ bytes ")\n"
 
--- "log items being stamp, lane, word": ` (STAMP LANE WORD)`
+-- ` (STAMP LANE WORD)`
+abbrev pub threeText : ℕ → ℕ → ℕ → List ℕ
+threeText stamp lane word = bytes " (" ++ decimal stamp ++ bytes " " ++ decimal lane ++ bytes " " ++ decimal word ++ bytes ")"
+
+-- "log items being stamp, lane, word"
 unfoldable pub itemText : Order → List ℕ
-itemText o = bytes " (" ++ decimal (o .stamp) ++ bytes " " ++ decimal (o .lane) ++ bytes " " ++ decimal (o .word) ++ bytes ")"
+itemText o = threeText (o .stamp) (o .lane) (o .word)
 
 -- the items of a log
 unfoldable pub itemsText : List Order → List ℕ

@@ -17,20 +17,22 @@ use Rattle.post.specs.declared.Post.{Post}
 use Rattle.roll.specs.Logs.{orderAt}
 use Rattle.row.specs.Rows.{part, postIn}
 use Rattle.roll.specs.Runs.{Order}
-use Rattle.meaning.specs.Texts.{itemText, itemsText}
+use Rattle.meaning.specs.Texts.{threeText, itemText, itemsText}
 use Rattle.printout.specs.Items.{itemsOf}
 
 -- a text and a number after what is written
 pub labelled : (o : Out) (t a b : List ℕ) {p q : Out} → p ≡ wrote o t → q ≡ wrote p (a ++ b) → q ≡ wrote o (t ++ a ++ b)
 labelled o t a b e f = rw (append-assoc t a b) (next o t (a ++ b) e f)
 
--- an item, from the stamp and the word read at its place
-pub item-wrote : (o p q r z : Out) (post : Post) (place stamp word : ℕ) → stamp ≡ getD (post .stamps) place 0 → word ≡ getD (post .words) place 0
-    → p ≡ wrote o (bytes " (" ++ decimal stamp) → q ≡ wrote p (bytes " " ++ decimal (place / 16)) → r ≡ wrote q (bytes " " ++ decimal word) → z ≡ wrote r (bytes ")")
-    → z ≡ wrote o (itemText (orderAt post place))
+-- three numbers, and an item from the stamp and the word read at its place
+pub three-wrote : (o p q r z : Out) (stamp lane word : ℕ) → p ≡ wrote o (bytes " (" ++ decimal stamp) → q ≡ wrote p (bytes " " ++ decimal lane)
+    → r ≡ wrote q (bytes " " ++ decimal word) → z ≡ wrote r (bytes ")") → z ≡ wrote o (threeText stamp lane word)
+three-wrote o p q r z stamp lane word e1 e2 e3 e4 = next _ _ _ (labelled _ _ (bytes " ") _ (labelled _ _ (bytes " ") _ e1 e2) e3) e4
+
+pub item-wrote : (o z : Out) (post : Post) (place stamp word : ℕ) → stamp ≡ getD (post .stamps) place 0 → word ≡ getD (post .words) place 0
+    → z ≡ wrote o (threeText stamp (place / 16) word) → z ≡ wrote o (itemText (orderAt post place))
 unfolding itemText
-item-wrote o p q r z post place stamp word es ew e1 e2 e3 e4 =
-    rw (es, ew) at (next _ _ _ (labelled _ _ (bytes " ") _ (labelled _ _ (bytes " ") _ e1 e2) e3) e4)
+item-wrote o z post place stamp word es ew e = rw (es, ew) at e
 
 -- one item more at the end
 items-one : (l : List Order) (x : Order) → itemsText (l ++ (x ∷ [])) ≡ itemsText l ++ itemText x

@@ -8,7 +8,7 @@ ghost use lib.ListN.{length, take};
 ghost use Rattle.roll.specs.Logs.{orderAt};
 ghost use Rattle.row.specs.Rows.{postIn};
 ghost use Rattle.text.specs.Writing.{out, wrote};
-ghost use Rattle.meaning.specs.Texts.{badText, refusedText, itemText, postText};
+ghost use Rattle.meaning.specs.Texts.{badText, refusedText, threeText, itemText, postText};
 ghost use Rattle.printout.specs.Items.{refusalText, postHead, itemsOf};
 
 // Orders of a lane.
@@ -97,8 +97,15 @@ fn put_item(buffer: &mut [u8], at: usize, row: &[u16], place: u16) -> usize
 {
     let stamp = row::stamp_at(row, place as usize);
     let word = row::get_in(row, row::WORDS, row::ORDERS, place as usize);
-    let a = put_labelled(buffer, at, b" (", stamp.0);
-    let a = put_labelled(buffer, a, b" ", place / ORDERS);
+    put_three(buffer, at, stamp.0, place / ORDERS, word)
+}
+
+// ` (STAMP LANE WORD)`
+pub fn put_three(buffer: &mut [u8], at: usize, stamp: u16, lane: u16, word: u16) -> usize
+    ensures { λ r. ⌜ out (now (buffer .exit)) r ≡ wrote (out (now (buffer .entry)) at) (threeText stamp lane word) ⌝ }
+{
+    let a = put_labelled(buffer, at, b" (", stamp);
+    let a = put_labelled(buffer, a, b" ", lane);
     let a = put_labelled(buffer, a, b" ", word);
     put_text(buffer, a, b")")
 }

@@ -119,7 +119,7 @@ good-here s air state′ air′ good e =
     (ap (λ (x : Here). x .held) is, ap (λ (x : Here). x .air) is)
 
 -- the steps, then the posts
-yard-of : (state : List ℕ) (y : _) (ks : List (List ℕ)) → length state ≡ 4476 → heldIn state ≡ whole y ks → yardIn state ≡ y
+pub yard-of : (state : List ℕ) (y : _) (ks : List (List ℕ)) → length state ≡ 4476 → heldIn state ≡ whole y ks → yardIn state ≡ y
 yard-of state y ks long e = let z : whole (yardIn state) (knownsIn state) ≡ whole y ks = sym (held-whole state long) ∙ e in cc
 
 pub good-posts : (s air state′ air′ : List ℕ) (o p q : Out) → judged s .number ≡ 0 → length state′ ≡ 4476

@@ -6,7 +6,7 @@ use Rattle.printout.proofs.put_item.Tie as tie
 
 returns : tie.Need-returns
 unfolding postIn
-returns c = item-wrote _ _ _ _ _ (postIn (c .before .before .before .before .before .before .before .before .before .before .before .before .before .before .before .before .before .before .before .before .before .before .before .before .args .row .now)) _ _ _ (c .before .before .before .before .before .before .before .before .before .before .before .before .before .before .before .before .before .before .before .before .before .stamp-at .ensures) (c .before .before .before .before .before .before .before .before .before .before .before .before .before .before .before .before .before .before .before .before .get-in .ensures) (c .before .before .before .before .before .before .before .before .before .before .before .before .before .before .before .before .before .put-labelled .ensures) (c .before .before .before .before .before .before .before .before .before .before .before .before .put-labelled2 .ensures) (c .before .before .before .before .before .before .before .put-labelled3 .ensures) (c .before .before .put-text .ensures)
+returns c = item-wrote _ _ (postIn (c .before .before .before .before .before .before .before .before .args .row .now)) _ _ _ (c .before .before .before .before .before .stamp-at .ensures) (c .before .before .before .before .get-in .ensures) (c .before .before .put-three .ensures)
 
 pub put-item-spec : {M : Type 1} → statement M
-put-item-spec = tie.close (tie.spec (λ c κs. tt) (λ c κs. tt) (λ c. search needs) (λ c κs. tt) (λ c. search needs) (λ c κs. tt) (λ c. search needs) (λ c κs. tt) (λ c. search needs) (λ c κs. tt) (λ c. search needs) returns)
+put-item-spec = tie.close (tie.spec (λ c κs. tt) (λ c κs. tt) (λ c κs. tt) (λ c. search needs) returns)

@@ -1,0 +1,3 @@
+pub mod LogNumbers
+pub mod FilesSaid
+pub mod LaneFiles

@@ -1,0 +1,5 @@
+pub mod GoodLogs
+pub mod PostLogs
+pub mod Texts
+pub mod YardLogs
+pub mod Theorem

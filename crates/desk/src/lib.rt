@@ -1,0 +1,1 @@
+// The desk gets what the post logged: a theorem, no code.

@@ -52,7 +52,7 @@ pub(crate) fn put_block(file: &[u8], heading: usize, into: &mut [u8]) -> usize {
         let next = after(file, at, b'\n');
         let times = number_at(file, at, b"", 1);
         let kind = byte_at(file, times.at);
-        if (kind != b'|') & (kind != b'+') & (kind != b'x') {
+        if (kind != b'|') & (kind != b'+') & (kind != b'~') & (kind != b'x') {
             return n;
         }
         n = put_times(part(file, times.at, next), times.latest, into, n);
@@ -72,7 +72,8 @@ fn put_times(line: &[u8], times: u32, into: &mut [u8], to: usize) -> usize {
     n
 }
 
-// `|TEXT` is a line of text, `+TEXT` text without a line feed, `x HH HH` bytes in hexadecimal.
+// `|TEXT` is a line of text, `+TEXT` text without a line feed, `~ WORD WORD` lines that end in CR LF, `x HH HH` bytes in
+// hexadecimal.
 fn put_once(line: &[u8], into: &mut [u8], to: usize) -> usize {
     let end = line.len();
     if end == 0 {
@@ -82,8 +83,22 @@ fn put_once(line: &[u8], into: &mut [u8], to: usize) -> usize {
     match kind {
         b'|' => put_text(into, to, part(line, 1, end)),
         b'+' => put_text(into, to, part(line, 1, end - 1)),
+        b'~' => put_words(line, into, to),
         _ => put_bytes(line, into, to),
     }
+}
+
+// Each word, after a space, is a line that ends in CR LF.
+fn put_words(line: &[u8], into: &mut [u8], to: usize) -> usize {
+    let mut n = to;
+    let mut at = after(line, 0, b' ');
+    while at < line.len() {
+        let next = after(line, at, b' ');
+        n = put_text(into, n, part(line, at, next - 1));
+        n = put_text(into, n, b"\r\n");
+        at = next;
+    }
+    n
 }
 
 // The two digits after each space are a byte.

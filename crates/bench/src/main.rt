@@ -1,9 +1,10 @@
-// The yard bench of document 01, run on the compiled code. The cases stand in the file `stdin` of this crate, which says
-// how they are written: one for each case of the joint table (crate `script_table`). Each is run, and what came is compared
-// with what the case expects.
+// The yard bench of document 01 and the cases of document 02, K1, run on the compiled code. The cases stand in the file
+// `stdin` of this crate, which says how they are written: one for each case of the joint table (crate `script_table`). Each
+// is run, and what came is compared with what the case expects.
 mod answers;
 mod cases;
 mod frames;
+mod logs;
 mod posts;
 mod yards;
 
@@ -97,6 +98,8 @@ fn run_verb<'a>(
         b'j' => answers::put_line(came, 0, b"", frame::drift_frame_check(input) as u16),
         b'r' => frames::reads(input, came),
         b'w' => frames::writes(input, number, &mut [255u8; 64], came),
+        b'c' => logs::composes(input, number, &mut [255u8; 4096], came),
+        b'i' => logs::imports(input, number, &mut [65535u16; logs::MOST], came),
         b's' => posts::play(number, set, input, came),
         _ => 0,
     }

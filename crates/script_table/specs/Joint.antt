@@ -1,7 +1,10 @@
--- The yard bench of document 01, "proved, in one joint table": frames and posts run singly, the yard, its refusals, scripts. Assumes nothing.
+-- The yard bench of document 01, "proved, in one joint table": frames and posts run singly, the yard, its refusals, scripts;
+-- and the cases of document 02, K1. Assumes nothing.
 use Rattle.table.specs.Cases.{Bench}
 use Rattle.table.specs.YardCases.{YardBench}
 use Rattle.table.specs.RefusalCases.{RefusalBench}
+use Rattle.csv_table.specs.CsvWriteCases.{CsvWriteBench}
+use Rattle.csv_table.specs.CsvReadCases.{CsvReadBench}
 use Rattle.script_table.specs.ScriptCases.{ScriptBench, MoreScriptBench}
 use Rattle.script_table.specs.BadScriptCases.{BadScriptBench}
 
@@ -12,3 +15,5 @@ pub record Joint : Type 0 where
   pub scripts : ScriptBench
   pub moreScripts : MoreScriptBench
   pub badScripts : BadScriptBench
+  pub csvWriting : CsvWriteBench
+  pub csvReading : CsvReadBench

@@ -1,0 +1,2 @@
+pub mod CsvWriteTable
+pub mod CsvReadTable

@@ -1,0 +1,3 @@
+pub mod CsvLogs
+pub mod CsvWriteCases
+pub mod CsvReadCases

@@ -1,7 +1,8 @@
 /*
  * DRIFT for firmware and hosts: the answer of 64 bits that a step of a post run
  * singly and a script run to its state give, and the numbers of the refusals.
- * Needs no archive. Included by drift_post.h, drift_script.h and drift.h.
+ * Needs no archive. Included by drift_csv.h, drift_post.h, drift_script.h and
+ * drift.h.
  */
 #ifndef DRIFT_ANSWER_H
 #define DRIFT_ANSWER_H
@@ -48,10 +49,10 @@ enum drift_answer_code {
 #define DRIFT_ANSWER_STEPS(answer) ((uint16_t)((uint64_t)(answer) >> 48))
 #define DRIFT_ANSWER_LINE(answer) ((uint16_t)((uint64_t)(answer) >> 48))
 
-/* Refusals of scripts, of steps in a yard and of posts run singly, beside 6 to
- * 11 of enum drift_frame_answer. */
+/* Refusals of scripts, of steps in a yard, of posts run singly and of CSV files,
+ * beside 6 to 11 of enum drift_frame_answer. */
 enum drift_refusal {
-    /* Script over 48,000 bytes. */
+    /* Script over 48,000 bytes; a CSV file too. */
     DRIFT_SCRIPT_TOO_LONG = 1,
     /* A line that has none of the forms, or no line feed at the end. */
     DRIFT_BAD_FORM = 2,
@@ -93,7 +94,13 @@ enum drift_refusal {
     DRIFT_STAMP_NOT_ABOVE = 29,
     /* An order or an entry of the hearing post's lane has a serial above its
      * own, or such an entry has a stamp above its clock. */
-    DRIFT_ABOVE_OWN = 30
+    DRIFT_ABOVE_OWN = 30,
+    /* A record of a CSV file, or of a log to be written as one, that is not
+     * three decimal fields within their ranges, or a header that differs. */
+    DRIFT_CSV_BAD_FIELDS = 31,
+    /* Such a record that does not rise by stamp and then lane, a 129th order,
+     * or a lane's 17th. */
+    DRIFT_CSV_BAD_SEQUENCE = 32
 };
 
 #endif

@@ -25,7 +25,8 @@ enum drift_frame_kind {
 enum drift_frame_answer {
     /* The frame can be read, or was read or written. */
     DRIFT_FRAME_GOOD = 0,
-    /* Frame, or the buffer for one, not 32 bytes. */
+    /* Frame, or the buffer for one, not 32 bytes. Of drift_csv_... what is lent
+     * for a text or a log has another length than it must. */
     DRIFT_NOT_32_BYTES = 6,
     /* Kind neither 1 nor 2. */
     DRIFT_BAD_KIND = 7,

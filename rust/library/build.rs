@@ -7,7 +7,7 @@ use std::path::{Path, PathBuf};
 const FOLDER_VARIABLE: &str = "DRIFT_STATICLIB";
 
 /// The crates whose functions are linked; each has a library of its own.
-const CRATES: [&str; 3] = ["frame", "script", "lent_post"];
+const CRATES: [&str; 4] = ["frame", "script", "lent_post", "csv"];
 
 fn main() {
     println!("cargo::rerun-if-changed=build.rs");

@@ -9,8 +9,10 @@ use std::env;
 use std::io::ErrorKind;
 use std::process::Command;
 
-/// A good script for the call before the counted ones.
+/// A good script, log and file for the calls before the counted ones.
 const FIRST_SCRIPT: &[u8] = b"(yard (0 both))\n(order 0 1)\n(roll)\n";
+const FIRST_LOG: [u16; 3] = [1, 0, 417];
+const FIRST_FILE: &[u8] = b"stamp,lane,word\r\n1,0,417\r\n";
 
 /// Whether valgrind can be run.
 pub fn valgrind_is_installed() -> bool {
@@ -85,6 +87,8 @@ fn first_calls(side: &Side, lent: &mut Lent) {
     ];
     let post = Post::fresh(0, 1, 1, 1).expect("a good post");
     Work::Post(Box::new(Records::new(&post)), steps).run(side, lent);
+    Work::CsvWrite(FIRST_LOG.to_vec()).run(side, lent);
+    Work::CsvRead(FIRST_FILE.to_vec()).run(side, lent);
 }
 
 #[cfg(test)]

@@ -1,5 +1,6 @@
 //! The rows of the table.
 
+mod csv;
 mod draft;
 mod frames;
 mod posts;
@@ -43,6 +44,7 @@ pub fn all() -> Vec<Row> {
     rows.extend(posts::rows());
     rows.extend(steps::rows());
     rows.extend(scripts::rows());
+    rows.extend(csv::rows());
     rows
 }
 

@@ -2,6 +2,7 @@
 
 use drift_library as library;
 use drift_records::record_of;
+use drift_reference::csv;
 use drift_reference::frame::{check, Frame, NOT_32_BYTES};
 use drift_reference::post::{HearAnswer, Post};
 use drift_reference::script;
@@ -24,6 +25,10 @@ pub struct Side {
     pub beacon: fn(&mut Records, &mut [u8]) -> usize,
     /// This side's record after its steps.
     pub record: fn(&Records) -> library::Post,
+    /// A log's numbers and the buffer for its text; a file and the place for its
+    /// numbers. What they answer, as one number.
+    pub csv_write: fn(&[u16], &mut [u8]) -> usize,
+    pub csv_read: fn(&[u8], &mut [u16]) -> usize,
 }
 
 /// A post's record, once for each side, which leaves that of the other alone.
@@ -74,6 +79,8 @@ pub const SIDES: [Side; 2] = [
             Ok(()) => answered(6, 0),
         },
         record: |records| records.lent,
+        csv_write: |numbers, buffer| told(library::csv::write_numbers(numbers, buffer)),
+        csv_read: |file, numbers| told(library::csv::read_numbers(file, numbers)),
     },
     Side {
         name: "rust",
@@ -97,8 +104,15 @@ pub const SIDES: [Side; 2] = [
             Ok(()) => answered(6, 0),
         },
         record: |records| record_of(&records.own),
+        csv_write: |numbers, buffer| told(csv::write(numbers, buffer)),
+        csv_read: |file, numbers| told(csv::read(file, numbers)),
     },
 ];
+
+/// The answer on a log: a refusal's number, or 256 × the value.
+fn told(answer: Result<usize, u8>) -> usize {
+    answer.map_or_else(refused, |value| value << 8)
+}
 
 /// The number of a refusal as an answer; no other answer has it.
 fn refused(number: u8) -> usize {

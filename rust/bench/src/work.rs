@@ -1,6 +1,7 @@
 //! What one call of a measurement does, and the buffers that it is lent.
 
 use crate::side::{Records, Side, FIELDS};
+use drift_reference::csv::{BUFFER_LENGTH, LOG_NUMBERS};
 use drift_reference::frame::FRAME_LENGTH;
 use drift_reference::post::Post;
 use drift_reference::script::OUTPUT_LENGTH;
@@ -15,6 +16,9 @@ pub enum Work {
     Script(Vec<u8>),
     /// Steps of a single post from this record on, which is copied first.
     Post(Box<Records>, Vec<PostStep>),
+    /// A log's numbers, and a file.
+    CsvWrite(Vec<u16>),
+    CsvRead(Vec<u8>),
     Nothing,
 }
 
@@ -34,6 +38,9 @@ pub struct Lent {
     pub fields: Vec<u16>,
     pub buffer: Vec<u8>,
     pub records: Records,
+    /// For the text of a log, and for its numbers.
+    pub text: Vec<u8>,
+    pub log: Vec<u16>,
 }
 
 impl Lent {
@@ -44,6 +51,8 @@ impl Lent {
             fields: vec![0; FIELDS],
             buffer: vec![0; FRAME_LENGTH],
             records: Records::new(&Post::EMPTY),
+            text: vec![0; BUFFER_LENGTH],
+            log: vec![0; LOG_NUMBERS],
         }
     }
 
@@ -98,6 +107,12 @@ impl Work {
                     black_box(black_box(step).run(side, lent));
                 }
             }
+            Work::CsvWrite(numbers) => {
+                black_box((side.csv_write)(black_box(numbers), &mut lent.text));
+            }
+            Work::CsvRead(file) => {
+                black_box((side.csv_read)(black_box(file), &mut lent.log));
+            }
             Work::Nothing => {}
         }
     }
@@ -137,6 +152,12 @@ impl Work {
                     note(step.run(side, &mut lent), &lent.left_by(side));
                 }
             }
+            Work::CsvWrite(numbers) => {
+                note((side.csv_write)(numbers, &mut lent.text), &lent);
+            }
+            Work::CsvRead(file) => {
+                note((side.csv_read)(file, &mut lent.log), &lent);
+            }
             Work::Nothing => {}
         }
         results
@@ -162,7 +183,7 @@ mod tests {
         bytes
     };
 
-    fn works() -> [Work; 5] {
+    fn works() -> [Work; 7] {
         let mut fields = vec![0; 22];
         fields[0] = 2;
         let post = Post::fresh(1, 3, 3, 3).expect("a good post");
@@ -173,6 +194,8 @@ mod tests {
             Work::Write(vec![fields]),
             Work::Script(b"(yard (0 both))\n(order 0 1)\n".to_vec()),
             Work::Post(Box::new(Records::new(&post)), steps),
+            Work::CsvWrite(vec![1, 0, 417]),
+            Work::CsvRead(b"stamp,lane,word\r\n1,0,417\r\n".to_vec()),
         ]
     }
 
@@ -195,6 +218,8 @@ mod tests {
                 (SIDES[1].run)(script, &mut other_air, output)
             },
             order: |records, word, buffer| (SIDES[1].order)(&mut records.clone(), word, buffer),
+            csv_write: |numbers, buffer| (SIDES[1].csv_write)(numbers, &mut buffer.to_vec()),
+            csv_read: |file, numbers| (SIDES[1].csv_read)(file, &mut numbers.to_vec()),
             ..SIDES[1]
         };
         let sides = [wrong, second];

@@ -4,26 +4,27 @@ mod calls;
 mod inputs;
 mod tally;
 
+use crate::calls::Difference;
 use crate::library::{Library, FIELDS};
 use crate::random::Random;
 use crate::stretch::Stretch;
 use calls::{Call, Function};
 use drift_reference::frame::FRAME_LENGTH;
 
-pub use calls::Difference;
 pub use inputs::{bytes_of, good_frame};
 pub use tally::Tally;
 #[cfg(test)]
 pub use tally::ANSWERS;
 
 type Bytes = [u8; FRAME_LENGTH];
+type Compared<T> = Result<T, Box<Difference<Function>>>;
 
 /// One in so many reads gets a row of fields that has not 22 numbers.
 const WRONG_ROW_ONE_IN: u16 = 40;
 
 /// Compares check, reader and writer on `count` random inputs, on damaged frames
 /// and on frames and buffers of many lengths; stops at the first difference.
-pub fn compare(library: &dyn Library, seed: u64, count: u64) -> Result<Tally, Box<Difference>> {
+pub fn compare(library: &dyn Library, seed: u64, count: u64) -> Compared<Tally> {
     let mut random = Random::new(seed);
     let frames = inputs::good_frames(&mut random);
     let mut comparison = Comparison {
@@ -52,9 +53,9 @@ struct Comparison<'a> {
 }
 
 impl Comparison<'_> {
-    fn compare_call(&mut self, call: Call) -> Result<(), Box<Difference>> {
+    fn compare_call(&mut self, call: Call) -> Compared<()> {
         let function = call.function;
-        let is_over_255 = inputs::has_over_255(call.fields.numbers());
+        let is_over_255 = inputs::has_over_255(call.numbers.numbers());
         let answer = call.compare(self.library, self.tally.total())?;
         self.tally.add(function, answer);
         if function == Function::Write && is_over_255 {
@@ -64,7 +65,7 @@ impl Comparison<'_> {
     }
 
     /// These bytes checked, read, and as the fields that they are written again.
-    fn compare_bytes(&mut self, bytes: &[u8]) -> Result<(), Box<Difference>> {
+    fn compare_bytes(&mut self, bytes: &[u8]) -> Compared<()> {
         let check = self.call(Function::Check, bytes, &[]);
         self.compare_call(check)?;
         let random = &mut self.random;
@@ -87,7 +88,7 @@ impl Comparison<'_> {
     }
 
     /// A random row of fields written, seldom into a buffer of a wrong length.
-    fn compare_fields(&mut self) -> Result<(), Box<Difference>> {
+    fn compare_fields(&mut self) -> Compared<()> {
         let random = &mut self.random;
         let fields = inputs::random_fields(random);
         let length = match random.one_in(WRONG_ROW_ONE_IN) {
@@ -105,12 +106,12 @@ impl Comparison<'_> {
         Call {
             function,
             bytes: Stretch::new(bytes.iter().copied(), random.byte()),
-            fields: Stretch::new(fields.iter().copied(), random.between(0, u16::MAX)),
+            numbers: Stretch::new(fields.iter().copied(), random.between(0, u16::MAX)),
         }
     }
 
     /// The frame itself, and each position with each of the 255 other values.
-    fn compare_damages(&mut self, frame: Bytes) -> Result<(), Box<Difference>> {
+    fn compare_damages(&mut self, frame: Bytes) -> Compared<()> {
         self.compare_bytes(&frame)?;
         for position in 0..FRAME_LENGTH {
             let mut damaged = frame;
@@ -123,7 +124,7 @@ impl Comparison<'_> {
     }
 
     /// The frame cut short, and the frame followed by itself up to each length.
-    fn compare_lengths(&mut self, frame: &Bytes) -> Result<(), Box<Difference>> {
+    fn compare_lengths(&mut self, frame: &Bytes) -> Compared<()> {
         // 288 and 65,568 are 32 in their lowest 8 and 16 bits.
         for length in (0..=40).chain([64, 288, 65_536, 65_568]) {
             let input: Vec<u8> = frame.iter().copied().cycle().take(length).collect();

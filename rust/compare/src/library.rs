@@ -8,8 +8,8 @@ use drift_library::raw;
 
 pub use drift_library::FRAME_FIELDS as FIELDS;
 
-/// The functions on frames, scripts and single posts, by the static library or by
-/// another.
+/// The functions on frames, scripts, single posts and delivery logs, by the static
+/// library or by another.
 ///
 /// What a function only reads is lent as changeable too, so that the compiler
 /// does not assume it unchanged: the caller compares it before and after.
@@ -41,6 +41,15 @@ pub trait Library {
 
     /// Sends a beacon: 0, or the refusal.
     fn post_beacon(&self, post: &mut Record, buffer: &mut [u8]) -> u8;
+
+    /// Writes a log's numbers as text; gives refusal and length as one number.
+    fn csv_write(&self, numbers: &mut [u16], buffer: &mut [u8]) -> u32;
+
+    /// Reads a file into a log's numbers; gives refusal and orders as one number.
+    fn csv_read(&self, file: &mut [u8], numbers: &mut [u16]) -> u32;
+
+    /// Gives refusal and number of a file's first bad record as one number.
+    fn csv_first_bad(&self, file: &mut [u8]) -> u32;
 }
 
 /// The static library of the proved crates.
@@ -125,5 +134,31 @@ impl Library for Proved {
     fn post_beacon(&self, post: &mut Record, buffer: &mut [u8]) -> u8 {
         let post: *mut Record = post;
         unsafe { raw::drift_post_beacon(post, buffer.as_mut_ptr(), buffer.len()) }
+    }
+
+    fn csv_write(&self, numbers: &mut [u16], buffer: &mut [u8]) -> u32 {
+        unsafe {
+            raw::drift_csv_write(
+                numbers.as_mut_ptr(),
+                numbers.len(),
+                buffer.as_mut_ptr(),
+                buffer.len(),
+            )
+        }
+    }
+
+    fn csv_read(&self, file: &mut [u8], numbers: &mut [u16]) -> u32 {
+        unsafe {
+            raw::drift_csv_read(
+                file.as_mut_ptr(),
+                file.len(),
+                numbers.as_mut_ptr(),
+                numbers.len(),
+            )
+        }
+    }
+
+    fn csv_first_bad(&self, file: &mut [u8]) -> u32 {
+        unsafe { raw::drift_csv_first_bad(file.as_mut_ptr(), file.len()) }
     }
 }

@@ -1,11 +1,14 @@
 //! Compares the static libraries of the proved crates with the second
-//! implementation on frames, single posts and scripts. Checks demand 3 on lists of
-//! steps run by the static libraries.
+//! implementation on frames, single posts, scripts and delivery logs. Checks demand 3
+//! on lists of steps run by the static libraries.
 
 #![deny(unsafe_code)]
 
 mod answer;
 mod arguments;
+mod calls;
+mod csv;
+mod damage;
 mod frames;
 mod layout;
 mod lent_record;
@@ -27,6 +30,8 @@ mod state;
 mod state_tests;
 mod stretch;
 mod tally;
+#[cfg(test)]
+mod wrong_csv;
 #[cfg(test)]
 mod wrong_frames;
 #[cfg(test)]

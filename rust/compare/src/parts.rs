@@ -3,12 +3,13 @@
 use crate::arguments::{Part, Task};
 use crate::library::{Library, Proved};
 use crate::second::Second;
-use crate::{frames, lists, posts, report, scripts};
+use crate::{csv, frames, lists, posts, report, scripts};
 use std::fmt::Display;
 
-/// A long run tells how far it is each time after so many scripts or lists.
+/// A long run tells how far it is each time after so many scripts, lists or logs.
 const SCRIPTS_BETWEEN: u64 = 20_000;
 const LISTS_BETWEEN: u64 = 1_000;
+const LOGS_BETWEEN: u64 = 100_000;
 
 /// Runs a part; true if nothing differs and everything came.
 pub fn run(task: Task) -> bool {
@@ -25,6 +26,7 @@ fn run_by(library: &dyn Library, task: Task) -> bool {
         Part::Posts => compare_posts(library, task),
         Part::Scripts => compare_scripts(library, task),
         Part::Lists | Part::SecondLists => check_lists(library, task),
+        Part::Csv => compare_csv(library, task),
     }
 }
 
@@ -109,6 +111,24 @@ fn check_lists(library: &dyn Library, task: Task) -> bool {
     }
 }
 
+fn compare_csv(library: &dyn Library, task: Task) -> bool {
+    let seed = task.seed;
+    let progress = |number| tell(task, number, LOGS_BETWEEN, "logs and files");
+    match csv::compare(library, seed, task.first, task.count, progress) {
+        Ok(tally) => {
+            println!("csv: static library and second implementation agree (seed {seed})");
+            print_and_judge(&tally, tally.never_came())
+        }
+        Err(found) => {
+            let difference = &found.difference;
+            let (function, before) = (difference.function(), difference.number);
+            println!("csv: {function} differs after {before} calls (seed {seed})");
+            print!("{}\n{difference}", found.place());
+            false
+        }
+    }
+}
+
 /// Tells how far a long run is.
 fn tell(task: Task, number: u64, between: u64, what: &str) {
     let done = number - task.first;
@@ -152,9 +172,16 @@ mod tests {
             run_script: Box::new(|_, _, _| 1),
             script_state: Box::new(|_, _, _| 0x0700),
             post_beacon: Box::new(|_, _| 0),
+            csv_first_bad: Box::new(|_| 0),
             ..Patched::default()
         };
-        for part in [Part::Frames, Part::Posts, Part::Scripts, Part::Lists] {
+        for part in [
+            Part::Frames,
+            Part::Posts,
+            Part::Scripts,
+            Part::Lists,
+            Part::Csv,
+        ] {
             assert!(!run_by(&wrong, Task { part, ..TASK }));
         }
     }

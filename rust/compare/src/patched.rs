@@ -14,6 +14,9 @@ type Fresh = dyn Fn(&mut Record, [u8; 4]) -> u8;
 type Order = dyn Fn(&mut Record, u16, &mut [u8]) -> u64;
 type Hear = dyn Fn(&mut Record, &mut [u8], &mut [u8]) -> u64;
 type Beacon = dyn Fn(&mut Record, &mut [u8]) -> u8;
+type WriteLog = dyn Fn(&mut [u16], &mut [u8]) -> u32;
+type ReadLog = dyn Fn(&mut [u8], &mut [u16]) -> u32;
+type FirstBad = dyn Fn(&mut [u8]) -> u32;
 
 pub struct Patched {
     pub frame_check: Box<Check>,
@@ -25,6 +28,9 @@ pub struct Patched {
     pub post_order: Box<Order>,
     pub post_hear: Box<Hear>,
     pub post_beacon: Box<Beacon>,
+    pub csv_write: Box<WriteLog>,
+    pub csv_read: Box<ReadLog>,
+    pub csv_first_bad: Box<FirstBad>,
 }
 
 impl Default for Patched {
@@ -39,6 +45,9 @@ impl Default for Patched {
             post_order: Box::new(|post, word, buffer| Second.post_order(post, word, buffer)),
             post_hear: Box::new(|post, frame, buffer| Second.post_hear(post, frame, buffer)),
             post_beacon: Box::new(|post, buffer| Second.post_beacon(post, buffer)),
+            csv_write: Box::new(|numbers, buffer| Second.csv_write(numbers, buffer)),
+            csv_read: Box::new(|file, numbers| Second.csv_read(file, numbers)),
+            csv_first_bad: Box::new(|file| Second.csv_first_bad(file)),
         }
     }
 }
@@ -78,5 +87,17 @@ impl Library for Patched {
 
     fn post_beacon(&self, post: &mut Record, buffer: &mut [u8]) -> u8 {
         (self.post_beacon)(post, buffer)
+    }
+
+    fn csv_write(&self, numbers: &mut [u16], buffer: &mut [u8]) -> u32 {
+        (self.csv_write)(numbers, buffer)
+    }
+
+    fn csv_read(&self, file: &mut [u8], numbers: &mut [u16]) -> u32 {
+        (self.csv_read)(file, numbers)
+    }
+
+    fn csv_first_bad(&self, file: &mut [u8]) -> u32 {
+        (self.csv_first_bad)(file)
     }
 }

@@ -7,7 +7,7 @@ use crate::posts::Difference;
 use crate::request::{Lent, Ran, Request, Step};
 use crate::stretch::Stretch;
 use drift_reference::post::Post;
-use std::fmt::{Display, Write};
+use std::fmt::{Debug, Display, Write};
 
 /// More fields than this that differ are only counted.
 const PRINTED_FIELDS: usize = 24;
@@ -16,7 +16,7 @@ const PRINTED_FIELDS: usize = 24;
 const PRINTED_BYTES: usize = 64;
 
 /// A field's name, and the second implementation's and the library's value of it.
-type Differing = (String, u16, u16);
+pub type Differing = (String, u16, u16);
 
 /// The request, both answers and the fields in which the two sides differ.
 pub fn describe(difference: &Difference) -> String {
@@ -35,15 +35,23 @@ pub fn describe(difference: &Difference) -> String {
     );
     line("static library", &told(step, difference.library.answer));
     let fields = all_differing(&difference.reference, &difference.library);
-    for (name, reference, library) in fields.iter().take(PRINTED_FIELDS) {
-        let values = format!("second implementation {reference}, static library {library}");
-        line("differs", &format!("{name}: {values}"));
-    }
-    if fields.len() > PRINTED_FIELDS {
-        let more = fields.len() - PRINTED_FIELDS;
-        line("differs", &format!("and {more} fields more"));
+    for told in differing_lines(&fields) {
+        line("differs", &told);
     }
     text
+}
+
+/// The first fields that differ, each in a line, and how many more there are.
+pub fn differing_lines(fields: &[Differing]) -> Vec<String> {
+    let printed = fields.iter().take(PRINTED_FIELDS);
+    let line = |(name, reference, library): &Differing| {
+        format!("{name}: second implementation {reference}, static library {library}")
+    };
+    let mut lines: Vec<String> = printed.map(line).collect();
+    if fields.len() > PRINTED_FIELDS {
+        lines.push(format!("and {} fields more", fields.len() - PRINTED_FIELDS));
+    }
+    lines
 }
 
 /// What an answer tells.
@@ -103,7 +111,7 @@ fn describe_record(post: &Post, line: &mut impl FnMut(&str, &dyn Display)) {
     line("log", &log);
 }
 
-fn joined(items: impl Iterator<Item = String>) -> String {
+pub fn joined(items: impl Iterator<Item = String>) -> String {
     items.collect::<Vec<String>>().join(" ")
 }
 
@@ -146,16 +154,28 @@ fn all_differing(reference: &Ran, library: &Ran) -> Vec<Differing> {
     let [beside, other_beside] = [reference, library].map(|ran| ran.record.margins());
     let name = |at: usize| format!("byte {at} beside the record");
     fields.extend(differing_fields(&beside, &other_beside, name));
-    fields.extend(differing_lent("frame", &reference.frame, &library.frame));
-    fields.extend(differing_lent("buffer", &reference.buffer, &library.buffer));
+    let lent = [
+        ("frame", &reference.frame, &library.frame),
+        ("buffer", &reference.buffer, &library.buffer),
+    ];
+    for (what, reference, library) in lent {
+        fields.extend(differing_lent("byte", what, reference, library));
+    }
     fields
 }
 
-fn differing_lent(what: &str, reference: &Stretch<u8>, library: &Stretch<u8>) -> Vec<Differing> {
-    let of = |at: usize| format!("byte {at} of the {what}");
+/// The numbers, or bytes, that differ in what was lent and beside it.
+pub fn differing_lent<Number: Copy + Debug + Into<u16>>(
+    number: &str,
+    what: &str,
+    reference: &Stretch<Number>,
+    library: &Stretch<Number>,
+) -> Vec<Differing> {
+    let of = |at: usize| format!("{number} {at} of the {what}");
     let mut fields = differing_fields(reference.numbers(), library.numbers(), of);
-    let [margins, others] = [reference, library].map(|lent| lent.margins().collect::<Vec<u8>>());
-    let beside = |at: usize| format!("byte {at} beside the {what}");
+    let [margins, others] =
+        [reference, library].map(|lent| lent.margins().collect::<Vec<Number>>());
+    let beside = |at: usize| format!("{number} {at} beside the {what}");
     fields.extend(differing_fields(&margins, &others, beside));
     fields
 }

@@ -20,6 +20,7 @@ use case::Case;
 
 pub use report::{escaped, Found};
 pub use tally::Tally;
+pub use texts::NUMBERS;
 
 /// Compares the fixed scripts, then `count` random ones from number `first` on;
 /// stops at the first difference. `progress` is told of each number before its

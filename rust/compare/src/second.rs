@@ -4,6 +4,7 @@ use crate::answer::Answered;
 use crate::lent_record::{post_of, record_of, Record};
 use crate::library::{Library, FIELDS};
 use crate::state::{write_state, STATE_CELLS};
+use drift_reference::csv;
 use drift_reference::frame::{check, Frame, NOT_32_BYTES};
 use drift_reference::post::Post;
 use drift_reference::script;
@@ -84,6 +85,27 @@ impl Library for Second {
 
     fn post_beacon(&self, post: &mut Record, buffer: &mut [u8]) -> u8 {
         post_of(post).beacon(buffer).err().unwrap_or(0)
+    }
+
+    fn csv_write(&self, numbers: &mut [u16], buffer: &mut [u8]) -> u32 {
+        told(csv::write(numbers, buffer))
+    }
+
+    fn csv_read(&self, file: &mut [u8], numbers: &mut [u16]) -> u32 {
+        told(csv::read(file, numbers))
+    }
+
+    fn csv_first_bad(&self, file: &mut [u8]) -> u32 {
+        let bad = csv::first_bad(file);
+        bad.map_or(0, |bad| u32::from(bad.number) + 256 * bad.record)
+    }
+}
+
+/// The answer on a delivery log: the refusal, or 256 × a value of at most 24 bits.
+fn told(answer: Result<usize, u8>) -> u32 {
+    match answer {
+        Err(number) => number.into(),
+        Ok(value) => 256 * value as u32,
     }
 }
 

@@ -1,5 +1,6 @@
 //! Numbers that are lent, with a margin on either side.
 
+use crate::random::Random;
 use std::fmt::Debug;
 
 /// How many numbers stand before and after the lent ones: an odd count, so that
@@ -20,6 +21,17 @@ impl<T: Copy + Debug> Stretch<T> {
         row.extend(numbers);
         row.extend([margin; MARGIN]);
         Stretch { row }
+    }
+
+    /// Random numbers with random margins; `split` makes some of 64 bits.
+    fn any<const COUNT: usize>(
+        random: &mut Random,
+        length: usize,
+        split: fn(u64) -> [T; COUNT],
+    ) -> Stretch<T> {
+        let margin = split(random.bits())[0];
+        let numbers = std::iter::repeat_with(|| split(random.bits())).flatten();
+        Stretch::new(numbers.take(length), margin)
     }
 
     /// The part that is lent.
@@ -45,6 +57,22 @@ impl<T: Copy + Debug> Stretch<T> {
         let (before, rest) = self.row.split_at_mut(MARGIN);
         let lent = rest.len() - MARGIN;
         before.iter_mut().chain(&mut rest[lent..])
+    }
+}
+
+impl Stretch<u8> {
+    /// Random bytes with random margins.
+    pub fn any_bytes(random: &mut Random, length: usize) -> Stretch<u8> {
+        Stretch::any(random, length, u64::to_be_bytes)
+    }
+}
+
+impl Stretch<u16> {
+    /// Random numbers of 16 bits with random margins.
+    pub fn any_cells(random: &mut Random, length: usize) -> Stretch<u16> {
+        Stretch::any(random, length, |bits| {
+            [0, 16, 32, 48].map(|bit| (bits >> bit) as u16)
+        })
     }
 }
 

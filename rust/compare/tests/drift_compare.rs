@@ -41,13 +41,14 @@ fn too_few_requests_fail() {
 #[test]
 fn every_part_is_run_and_told() {
     // With so few inputs not everything comes, but nothing differs.
-    let (code, output, error) = compare(&["3", "10", "10", "10", "2"]);
+    let (code, output, error) = compare(&["3", "10", "10", "10", "2", "10"]);
     assert_eq!((code, error.as_str()), (Some(1), ""), "{output}");
     for line in [
         "frames: static library and second implementation agree (seed 3)",
         "posts: static library and second implementation agree (seed 3)",
         "scripts: static library and second implementation agree (seed 3)",
         "lists: demand 3 holds for the static library (seed 3)",
+        "csv: static library and second implementation agree (seed 3)",
     ] {
         assert!(output.lines().any(|told| told == line), "{line}\n{output}");
     }
@@ -58,9 +59,12 @@ fn one_part_is_run_alone() {
     let (code, output, error) = compare(&["second-lists", "1", "60", "5"]);
     assert_eq!((code, error.as_str()), (Some(0), ""), "{output}");
     assert!(output.starts_with("lists: demand 3 holds for the second implementation (seed 1)\n"));
-    let (code, output, error) = compare(&["frames", "1", "1000"]);
-    assert_eq!((code, error.as_str()), (Some(0), ""), "{output}");
-    assert!(!output.contains("posts: "), "{output}");
+    for part in ["frames", "csv"] {
+        let (code, output, error) = compare(&[part, "1", "1000"]);
+        assert_eq!((code, error.as_str()), (Some(0), ""), "{output}");
+        assert!(output.starts_with(&format!("{part}: ")), "{output}");
+        assert!(!output.contains("posts: "), "{output}");
+    }
 }
 
 #[test]
@@ -68,7 +72,7 @@ fn bad_arguments_are_told() {
     let bad: [&[&str]; 5] = [
         &["x"],
         &["1", "2", "-3"],
-        &["1", "2", "3", "4", "5", "6"],
+        &["1", "2", "3", "4", "5", "6", "7"],
         &["scripts", "1"],
         &["posts", "1", "2", "3"],
     ];

@@ -2,6 +2,7 @@
 //! asks and answers stands in `c/drift.h`.
 
 mod answer;
+pub mod csv;
 mod post;
 mod state;
 
@@ -83,6 +84,22 @@ pub mod raw {
         ) -> u64;
 
         pub fn drift_post_beacon(post: *const Post, buffer: *mut u8, buffer_length: usize) -> u8;
+
+        pub fn drift_csv_write(
+            numbers: *const u16,
+            count: usize,
+            buffer: *mut u8,
+            length: usize,
+        ) -> u32;
+
+        pub fn drift_csv_read(
+            file: *const u8,
+            length: usize,
+            numbers: *mut u16,
+            count: usize,
+        ) -> u32;
+
+        pub fn drift_csv_first_bad(file: *const u8, length: usize) -> u32;
     }
 }
 

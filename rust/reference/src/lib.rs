@@ -1,12 +1,15 @@
-//! Second implementation of "DRIFT in an eight-lane yard" (document 01).
+//! Second implementation of "DRIFT in an eight-lane yard" (document 01) and of
+//! request K1 of document 02, delivery logs as comma-separated files.
 //!
-//! It is written from document 01 and the way it is read (docs/DECISIONS.md),
+//! It is written from the documents and the way they are read (docs/DECISIONS.md),
 //! not from the proved crates, so that comparing the two can find a misreading
 //! in either.
 
 #![forbid(unsafe_code)]
 
+pub mod csv;
 pub mod frame;
 pub mod post;
 pub mod script;
+mod text;
 pub mod yard;

@@ -1,8 +1,8 @@
-//! A call of a function on frames, run by the static library or by another.
+//! The functions on frames, and what is printed of a call that differs.
 
+use crate::calls::{self, Difference};
 use crate::library::Library;
 use crate::report::hex;
-use crate::second::Second;
 use crate::stretch::Stretch;
 use std::fmt::{self, Display};
 
@@ -23,68 +23,26 @@ pub const FUNCTIONS: [(Function, &str); 3] = [
     (Function::Write, "drift_frame_write"),
 ];
 
-/// A function with the frame's bytes, or the buffer for them, and its fields.
-/// A check leaves the fields aside.
-#[derive(Clone, Debug, PartialEq, Eq)]
-pub struct Call {
-    pub function: Function,
-    pub bytes: Stretch<u8>,
-    pub fields: Stretch<u16>,
-}
+/// A function with the frame's bytes, or the buffer for them, and its fields as
+/// numbers.
+pub type Call = calls::Call<Function>;
 
-/// What a call answered, and how it left what was lent.
-#[derive(Debug, PartialEq, Eq)]
-pub struct Ran {
-    pub answer: u8,
-    pub after: Call,
-}
+impl calls::Function for Function {
+    fn name(self) -> &'static str {
+        FUNCTIONS[self as usize].1
+    }
 
-/// A call that the two sides did not run alike.
-#[derive(Debug)]
-pub struct Difference {
-    /// How many calls came before it.
-    pub number: u64,
-    pub given: Call,
-    pub reference: Ran,
-    pub library: Ran,
-}
-
-impl Call {
-    fn run(&self, library: &dyn Library) -> Ran {
-        let mut after = self.clone();
-        let (bytes, fields) = (after.bytes.lent(), after.fields.lent());
-        let answer = match self.function {
+    fn call(self, library: &dyn Library, bytes: &mut [u8], fields: &mut [u16]) -> u32 {
+        let answer = match self {
             Function::Check => library.frame_check(bytes),
             Function::Read => library.frame_read(bytes, fields),
             Function::Write => library.frame_write(fields, bytes),
         };
-        Ran { answer, after }
-    }
-
-    /// Runs the call by both; gives the answer, or the difference.
-    pub fn compare(self, library: &dyn Library, number: u64) -> Result<u8, Box<Difference>> {
-        let reference = self.run(&Second);
-        let library = self.run(library);
-        if library == reference {
-            return Ok(reference.answer);
-        }
-        Err(Box::new(Difference {
-            number,
-            given: self,
-            reference,
-            library,
-        }))
+        answer.into()
     }
 }
 
-impl Difference {
-    /// The name of the function that was called.
-    pub fn function(&self) -> &'static str {
-        FUNCTIONS[self.given.function as usize].1
-    }
-}
-
-impl Display for Difference {
+impl Display for Difference<Function> {
     /// The call, both answers, and what either side changed of what was lent.
     fn fmt(&self, output: &mut fmt::Formatter) -> fmt::Result {
         let given = &self.given;
@@ -92,20 +50,16 @@ impl Display for Difference {
         writeln!(output, "{:<22}{}", "function", self.function())?;
         writeln!(output, "{:<22}{}", "bytes", bytes(&given.bytes))?;
         if given.function != Function::Check {
-            writeln!(output, "{:<22}{}", "fields", fields(&given.fields))?;
+            writeln!(output, "{:<22}{}", "fields", fields(&given.numbers))?;
         }
-        let sides = [
-            ("second implementation", &self.reference),
-            ("static library", &self.library),
-        ];
-        for (name, ran) in sides {
+        for (name, ran) in self.sides() {
             writeln!(output, "{name:<22}answer {}", ran.answer)?;
             if ran.after.bytes != given.bytes {
                 let left = bytes(&ran.after.bytes);
                 writeln!(output, "{:<22}bytes {left}", "  left changed")?;
             }
-            if ran.after.fields != given.fields {
-                let left = fields(&ran.after.fields);
+            if ran.after.numbers != given.numbers {
+                let left = fields(&ran.after.numbers);
                 writeln!(output, "{:<22}fields {left}", "  left changed")?;
             }
         }

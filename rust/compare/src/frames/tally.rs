@@ -15,8 +15,8 @@ pub struct Tally {
 }
 
 impl Tally {
-    pub fn add(&mut self, function: Function, answer: u8) {
-        self.counts[function as usize][usize::from(answer)] += 1;
+    pub fn add(&mut self, function: Function, answer: u32) {
+        self.counts[function as usize][answer as usize] += 1;
     }
 
     fn of(&self, function: Function, answer: u8) -> u64 {

@@ -8,7 +8,6 @@ use crate::state::STATE_CELLS;
 use crate::stretch::Stretch;
 use drift_reference::script::OUTPUT_LENGTH;
 use drift_reference::yard::AIR_LENGTH;
-use std::fmt::Debug;
 
 /// Stands around the script: reading past its end would find a line feed there.
 const AROUND_SCRIPT: u8 = b'\n';
@@ -119,14 +118,13 @@ impl Case {
         Ran {
             answer: 0,
             script: Stretch::new(self.script.iter().copied(), AROUND_SCRIPT),
-            air: any_numbers(&mut random, self.air_length, u64::to_be_bytes),
+            air: Stretch::any_bytes(&mut random, self.air_length),
             written: match function {
                 Function::Run => {
-                    let length = self.output_length;
-                    Written::Output(any_numbers(&mut random, length, u64::to_be_bytes))
+                    Written::Output(Stretch::any_bytes(&mut random, self.output_length))
                 }
                 Function::State => {
-                    Written::State(any_numbers(&mut random, self.state_cells, cells))
+                    Written::State(Stretch::any_cells(&mut random, self.state_cells))
                 }
             },
         }
@@ -174,20 +172,4 @@ impl Difference {
             _ => "script",
         }
     }
-}
-
-/// Random numbers with random margins; `split` makes some of 64 bits.
-fn any_numbers<Number: Copy + Debug, const COUNT: usize>(
-    random: &mut Random,
-    length: usize,
-    split: fn(u64) -> [Number; COUNT],
-) -> Stretch<Number> {
-    let margin = split(random.bits())[0];
-    let numbers = std::iter::repeat_with(|| split(random.bits())).flatten();
-    Stretch::new(numbers.take(length), margin)
-}
-
-/// 64 bits as four cells.
-fn cells(bits: u64) -> [u16; 4] {
-    [0, 16, 32, 48].map(|bit| (bits >> bit) as u16)
 }

@@ -9,8 +9,7 @@ use drift_reference::post::HearAnswer;
 use drift_reference::yard::{Yard, AIR_LENGTH};
 use std::fmt::Display;
 
-/// The longest script that is not refused by 1.
-pub const LONGEST_SCRIPT: usize = 48_000;
+pub use crate::damage::LONGEST_TEXT as LONGEST_SCRIPT;
 
 /// The most steps that are added to come to a wanted delivery.
 const STEPS_UNTIL_DELIVERY: usize = 40;

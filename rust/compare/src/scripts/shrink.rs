@@ -2,7 +2,7 @@
 
 use super::draft::Draft;
 use super::step::{Step, YardLine};
-use super::texts::lines;
+use crate::damage::lines;
 use std::ops::Range;
 use std::time::{Duration, Instant};
 

@@ -1,8 +1,6 @@
 //! Parts of scripts: numbers at limits, yard lines and other lines, most of them
 //! bad; each of them also makes fixed scripts.
 
-use std::ops::Range;
-
 /// Numbers at the limits of document 01, and ones that are written badly.
 pub const NUMBERS: [&str; 27] = [
     "0",
@@ -135,14 +133,4 @@ pub fn scripts() -> impl Iterator<Item = Vec<u8>> {
         numbers.map(move |number| format!("{before}{number}{after}"))
     });
     yards.chain(lines).chain(numbers).map(String::into_bytes)
-}
-
-/// The places of a script's lines, with their line feeds.
-pub fn lines(script: &[u8]) -> Vec<Range<usize>> {
-    let mut end = 0;
-    let lines = script.split_inclusive(|&byte| byte == b'\n').map(|line| {
-        end += line.len();
-        end - line.len()..end
-    });
-    lines.collect()
 }

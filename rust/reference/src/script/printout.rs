@@ -2,6 +2,7 @@
 
 use super::{Bad, OUTPUT_LENGTH};
 use crate::post::{holds, Post};
+use crate::text::put_before;
 use crate::yard::Yard;
 
 pub(super) struct Printout<'a> {
@@ -70,18 +71,10 @@ impl<'a> Printout<'a> {
         self.bytes(text.as_bytes());
     }
 
-    fn number(&mut self, mut number: u32) {
+    fn number(&mut self, number: u32) {
         // A number of 32 bits has at most ten digits.
         let mut digits = [0; 10];
-        let mut start = digits.len();
-        loop {
-            start -= 1;
-            digits[start] = b'0' + (number % 10) as u8;
-            number /= 10;
-            if number == 0 {
-                break;
-            }
-        }
+        let start = put_before(&mut digits, 10, number);
         self.bytes(&digits[start..]);
     }
 

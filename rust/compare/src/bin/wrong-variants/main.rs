@@ -12,6 +12,7 @@ use edit::Edit;
 use std::fs;
 use std::path::{Path, PathBuf};
 use std::process::ExitCode;
+use std::thread;
 use workshop::{Told, Workshop};
 
 fn main() -> ExitCode {
@@ -29,21 +30,46 @@ fn main() -> ExitCode {
     }
 }
 
+/// How many edits are tried at a time, each in a copy of its own.
+const AT_A_TIME: usize = 2;
+
 /// Tries the named edits, or all; gives the number of those that failed.
 fn run(names: &[String]) -> Result<usize, String> {
     let files = edit_files(names)?;
-    let workshop = Workshop::new().map_err(|error| error.to_string())?;
+    let shares: Vec<Vec<&PathBuf>> = (0..AT_A_TIME)
+        .map(|first| files.iter().skip(first).step_by(AT_A_TIME).collect())
+        .collect();
+    let failed: Vec<Result<usize, String>> = thread::scope(|scope| {
+        let tasks: Vec<_> = shares
+            .iter()
+            .enumerate()
+            .map(|(number, share)| scope.spawn(move || try_share(number, share)))
+            .collect();
+        tasks
+            .into_iter()
+            .map(|task| task.join().unwrap_or(Err("it panicked".into())))
+            .collect()
+    });
+    let failed: usize = failed.into_iter().sum::<Result<usize, String>>()?;
+    println!(
+        "wrong variants: {} of {} noticed",
+        files.len() - failed,
+        files.len()
+    );
+    Ok(failed)
+}
+
+/// Tries some of the edits in one copy; gives the number of those that failed.
+fn try_share(number: usize, files: &[&PathBuf]) -> Result<usize, String> {
+    let workshop = Workshop::new(number).map_err(|error| error.to_string())?;
     workshop
         .build()
         .map_err(|why| format!("unchanged: {why}"))?;
-    for part in Workshop::parts() {
-        if let Told::Noticed(words) = workshop.compare(part)? {
-            return Err(format!("unchanged, and yet {words}"));
-        }
+    if number == 0 {
+        unchanged_agrees(&workshop)?;
     }
-    println!("unchanged: nothing is noticed");
     let mut failed = 0;
-    for file in &files {
+    for file in files {
         let name = file.file_stem().unwrap_or_default().to_string_lossy();
         match try_edit(&workshop, file) {
             Ok(noticed) => println!("{name}: {noticed}"),
@@ -53,12 +79,18 @@ fn run(names: &[String]) -> Result<usize, String> {
             }
         }
     }
-    println!(
-        "wrong variants: {} of {} noticed",
-        files.len() - failed,
-        files.len()
-    );
     Ok(failed)
+}
+
+/// Without an edit nothing is noticed.
+fn unchanged_agrees(workshop: &Workshop) -> Result<(), String> {
+    for part in Workshop::parts() {
+        if let Told::Noticed(words) = workshop.compare(part)? {
+            return Err(format!("unchanged, and yet {words}"));
+        }
+    }
+    println!("unchanged: nothing is noticed");
+    Ok(())
 }
 
 /// The files of the named edits in the order of their names, or of all.

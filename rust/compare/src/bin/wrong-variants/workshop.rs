@@ -12,11 +12,12 @@ use std::process::{Command, Stdio};
 const SEED: &str = "1";
 
 /// The parts with the number of their inputs; these notice each edit early.
-const PARTS: [(&str, &str); 4] = [
+const PARTS: [(&str, &str); 5] = [
     ("frames", "2000"),
     ("posts", "20000"),
     ("scripts", "400"),
     ("second-lists", "60"),
+    ("csv", "400"),
 ];
 
 /// The manifest of the copy. Little time for each build counts most there.
@@ -48,11 +49,11 @@ pub enum Told {
 }
 
 impl Workshop {
-    /// Copies the packages into the folder for what is built.
-    pub fn new() -> io::Result<Workshop> {
+    /// Copies the packages into a folder of this number for what is built.
+    pub fn new(number: usize) -> io::Result<Workshop> {
         let compare = Path::new(env!("CARGO_MANIFEST_DIR"));
         let original = compare.join("..").canonicalize()?;
-        let copy = original.join("target/wrong-variants");
+        let copy = original.join(format!("target/wrong-variants/{number}"));
         for package in ["library", "reference", "records", "compare"] {
             let old = copy.join(package);
             if old.exists() {

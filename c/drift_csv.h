@@ -74,7 +74,7 @@ extern "C" {
  *
  * For all three functions: they have no state, need no initialisation and no
  * heap, and may be called from any thread that has what it lends to itself
- * meanwhile.
+ * meanwhile. They use less than 1 KB of the caller's stack: have 2 KB free.
  */
 uint32_t drift_csv_write(const uint16_t *numbers, size_t count,
                          uint8_t *buffer, size_t length);

@@ -1,22 +1,20 @@
 -- What `csv-read` prints is what reading gives, and it is short. Assumes nothing.
 use mathlib.Core.Path.{_≡_, refl, sym, ap, _∙_}
 use mathlib.Core.Bool.{Bool, true, false, cond, not}
-use mathlib.Core.List.{List, [], _∷_, _++_, map}
-use Prim.Native.Nat.{ℕ, _+_, _*_, _/_, _%_, _<_, _≤_}
+use mathlib.Core.List.{List, [], _∷_, _++_}
+use Prim.Native.Nat.{ℕ, _+_, _*_, _/_, _%_, _≤_}
 use native.Mathlib.Omega.{arith}
 use lib.Dec.{eqb, ltb, leb}
 use lib.ListN.{length, take, drop, length-append}
 use lib.Seq.{take-at}
-use borrow.Author.Tests.{ltb-false, eqb-true, eqb-false, eq-eqb, ne-eqb}
+use borrow.Author.Tests.{eqb-true, eqb-false, eq-eqb, ne-eqb}
 use Rattle.text.specs.Bytes.{bytes}
-use Rattle.text.specs.Decimal.{decimal}
 use Rattle.text.specs.Writing.{Out, wrote}
 use Rattle.text.proofs.Laws.{next}
 use Rattle.scan.proofs.Decimal.{at-most-5}
-use Rattle.meaning.specs.Texts.{badText, threeText}
+use Rattle.meaning.specs.Texts.{badText}
 use Rattle.fields.specs.Fields.{readHeader}
 use Rattle.csv.specs.declared.LogItem.{LogItem}
-use Rattle.csv.specs.declared.FirstBad.{FirstBad}
 use Rattle.csv.specs.Log.{Record, inThree, malformed, logIn, itemNumbers, inRange, risesAfter, countOfLane, itemRefusal, atRecord, firstBad}
 use Rattle.csv.specs.Text.{inTurn}
 use Rattle.csv.specs.Writing.{recordsIn}

@@ -4,7 +4,7 @@ use mathlib.Core.Bool.{Bool, true, false, cond, not}
 use mathlib.Core.List.{List, _++_, map}
 use Prim.Native.Nat.{ℕ, _+_, _*_, _/_, _%_, _<_, _≤_}
 use native.Mathlib.Omega.{arith}
-use lib.Dec.{ltb, eqb}
+use lib.Dec.{eqb}
 use lib.ListN.{length, getD, take, drop}
 use lib.Seq.{sets}
 use borrow.Author.Tests.{lt-ltb, le-ltb, eq-eqb, ne-eqb, not-false}
@@ -15,9 +15,8 @@ use Rattle.lines.specs.declared.Judged.{Judged}
 use Rattle.lines.specs.declared.Line.the-variants.{Yard}
 use Rattle.lines.specs.Lines.{judged}
 use Rattle.yard.specs.Yards as yards
-use Rattle.yard.specs.Yards.{postAt}
-use Rattle.yard.specs.States.{Held, whole, heldIn, rowOf, yardIn}
-use Rattle.yard.proofs.YardLaws.{at-yard, held-whole}
+use Rattle.yard.specs.States.{whole, heldIn, rowOf, yardIn}
+use Rattle.yard.proofs.YardLaws.{at-yard}
 use Rattle.roll.specs.Logs.{ordersLogged}
 use Rattle.meaning.specs.Script.{scriptWorld}
 use Rattle.fits.proofs.Printed.{printed}
@@ -27,7 +26,7 @@ use Rattle.script.specs.OnState.{scriptKnowns}
 use Rattle.script.proofs.ScriptWays.{yard-of}
 use Rattle.csv.specs.Log.{itemNumbers, logIn}
 use Rattle.csv.specs.Text.{logText}
-use Rattle.csv.specs.Writing.{handedText, recordsIn, csvWriteRefusal, csvWriteAnswer, bufferAfter}
+use Rattle.csv.specs.Writing.{handedText, csvWriteRefusal, csvWriteAnswer, bufferAfter}
 use Rattle.csv.proofs.Logs.{said-back}
 use Rattle.csv.proofs.Numbers.{numbers-records}
 use Rattle.csv.proofs.Entries.{front}

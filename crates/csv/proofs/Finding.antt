@@ -1,6 +1,5 @@
 -- The numbers found record by record are those of the log that a file says. Assumes nothing.
-use mathlib.Core.Path.{_≡_, refl, sym, ap, _∙_}
-use mathlib.Core.Bool.{Bool, true, false, cond}
+use mathlib.Core.Path.{_≡_, refl, sym, _∙_}
 use mathlib.Core.List.{List, [], _∷_, _++_}
 use Prim.Native.Nat.{ℕ, zero, suc, _+_, _*_, _<_, _≤_}
 use native.Mathlib.Numerals.{add-one}
@@ -8,7 +7,6 @@ use native.Mathlib.Omega.{arith}
 use lib.ListN.{length, getD, set, take, drop}
 use lib.Seq.{sets, length-take-le, take-suc, drop-cons, set-at, append-snoc}
 use borrow.Author.Tests.{lt-ltb, le-ltb}
-use Rattle.csv.specs.declared.FirstBad.{FirstBad}
 use Rattle.csv.specs.Log.{Record, inThree, malformed, logIn, itemNumbers, atRecord, firstBad}
 use Rattle.csv.specs.Reading.{recordAt, afterRecord, recordsFrom}
 use Rattle.csv.specs.Seen.{refusalBy, foundWith, itemFound, recordRefusalBy, recordSeen, recordFound}

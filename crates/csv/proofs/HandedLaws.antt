@@ -1,15 +1,14 @@
 -- A log that is handed in as numbers, record by record: Writing.antt. Assumes nothing.
-use mathlib.Core.Path.{_≡_, refl, sym, ap, _∙_}
-use mathlib.Core.List.{List, [], _∷_, _++_}
-use Prim.Native.Nat.{ℕ, zero, suc, _+_, _-_, _<_, _≤_}
-use native.Mathlib.Numerals.{add-one}
+use mathlib.Core.Path.{_≡_, refl, sym, ap}
+use mathlib.Core.List.{List, [], _∷_}
+use Prim.Native.Nat.{ℕ, suc, _+_, _-_, _<_, _≤_}
 use native.Mathlib.Omega.{arith}
 use lib.ListN.{length, getD, drop, length-drop}
 use lib.Seq.{drop-cons}
-use Rattle.text.specs.Writing.{Out, out, wrote}
+use Rattle.text.specs.Writing.{Out, wrote}
 use Rattle.text.proofs.Laws.{wrote-append}
 use Rattle.csv.specs.declared.LogItem.{LogItem}
-use Rattle.csv.specs.Log.{logItem, Record, inThree, malformed, logIn, firstBad, atRecord}
+use Rattle.csv.specs.Log.{logItem, inThree, malformed, logIn, firstBad}
 use Rattle.csv.specs.Text.{inTurn}
 use Rattle.csv.specs.Writing.{recordsIn}
 use Rattle.csv.specs.Seen.{refusalBy, seenAfter}

@@ -1,18 +1,15 @@
 -- Records judged one after another by the cells: the first bad one is that of the definitions. Assumes nothing.
 use mathlib.Core.Path.{_≡_, refl, sym, ap, _∙_}
-use mathlib.Core.Bool.{Bool, true, false, cond}
 use mathlib.Core.List.{List, [], _∷_}
-use Prim.Native.Nat.{ℕ, zero, suc, _+_, _*_, _<_, _≤_}
+use Prim.Native.Nat.{ℕ, _+_, _<_}
 use native.Mathlib.Numerals.{add-one}
 use native.Mathlib.Omega.{arith}
-use lib.Dec.{eqb}
 use lib.ListN.{length, getD}
-use borrow.Author.Tests.{eq-eqb, ne-eqb}
+use borrow.Author.Tests.{ne-eqb}
 use Rattle.csv.specs.declared.LogItem.{LogItem}
-use Rattle.csv.specs.declared.FirstBad.{FirstBad}
-use Rattle.csv.specs.Log.{Record, inThree, malformed, inRange, countOfLane, itemRefusal, atRecord, firstBad, logIn}
+use Rattle.csv.specs.Log.{Record, inThree, malformed, countOfLane, itemRefusal, atRecord, firstBad}
 use Rattle.csv.specs.Seen.{refusalBy, seenWith, seenAfter, recordRefusalBy, recordSeen}
-use Rattle.csv.proofs.Logs.{item-passed, first-passed, malformed-bad}
+use Rattle.csv.proofs.Logs.{item-passed}
 use Rattle.csv.proofs.SeenLaws.{seenOf, count-cell, seen-with, seen-judges}
 
 -- after some records, none of them bad, the cells are theirs, and what is left decides

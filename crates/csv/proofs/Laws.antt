@@ -1,16 +1,16 @@
 -- Laws of one record's judgement, and of the cells that the code keeps of those before it: Log.antt, Seen.antt. Assumes nothing.
-use mathlib.Core.Path.{_≡_, refl, sym, ap, _∙_}
-use mathlib.Core.Bool.{Bool, true, false, cond, not, _&&_, _||_}
-use mathlib.Core.List.{List, [], _∷_, _++_}
-use Prim.Native.Nat.{ℕ, _+_, _*_, _<_, _≤_}
+use mathlib.Core.Path.{_≡_, refl, sym, _∙_}
+use mathlib.Core.Bool.{Bool, true, false, cond, not, _&&_}
+use mathlib.Core.List.{List}
+use Prim.Native.Nat.{ℕ, _+_, _*_, _<_}
 use native.Mathlib.Omega.{arith}
-use lib.Dec.{ltb, leb, eqb}
-use lib.ListN.{length, getD, set}
-use borrow.Author.Tests.{ltb-true, ltb-false, leb-true, leb-false, lt-ltb, le-ltb, le-leb, lt-leb, eqb-true, eqb-false, eq-eqb, ne-eqb}
+use lib.Dec.{ltb}
+use lib.ListN.{getD, set}
+use borrow.Author.Tests.{ltb-true, ne-eqb}
 use Rattle.scan.proofs.Laws.{never, both}
 use Rattle.scan.proofs.TextLaws.{not-no}
 use Rattle.csv.specs.declared.LogItem.{LogItem}
-use Rattle.csv.specs.Log.{inRange, rises, risesAfter, countOfLane, itemRefusal}
+use Rattle.csv.specs.Log.{inRange}
 use Rattle.csv.proofs.Logs.{in-range}
 use Rattle.csv.specs.Seen.{risesBy, roomBy, refusalBy, seenWith, seenAfter, foundWith, itemFound}
 

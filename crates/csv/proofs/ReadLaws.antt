@@ -15,7 +15,7 @@ use Rattle.scan.proofs.TextLaws.{not-no}
 use Rattle.scan.proofs.Decimal.{at-least-1}
 use Rattle.scan.proofs.Number.{Read, number-sound}
 use Rattle.scan.proofs.Reading.{text-sound}
-use Rattle.fields.specs.Fields.{comma, crlf, quote, readField, readName, readEnd, readStamp, readRest}
+use Rattle.fields.specs.Fields.{comma, crlf, quote, readField, readEnd, readStamp, readRest}
 use Rattle.csv.specs.declared.Taken.{Taken}
 use Rattle.csv.specs.Log.{logItem}
 use Rattle.csv.specs.Reading.{restAt, recordAt, afterRecord}

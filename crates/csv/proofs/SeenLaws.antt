@@ -1,18 +1,17 @@
 -- The cells that the code keeps judge a record as those before it do: Seen.antt, Log.antt. Assumes nothing.
-use mathlib.Core.Path.{_≡_, refl, sym, ap, _∙_}
-use mathlib.Core.Bool.{Bool, true, false, cond, not, _&&_, _||_}
+use mathlib.Core.Path.{_≡_, refl}
+use mathlib.Core.Bool.{Bool, true, false, cond, not, _&&_}
 use mathlib.Core.List.{List, [], _∷_}
-use Prim.Native.Nat.{ℕ, zero, suc, _+_, _<_, _≤_}
+use Prim.Native.Nat.{ℕ, zero, suc, _+_, _<_}
 use native.Mathlib.Numerals.{add-one}
 use native.Mathlib.Nat.{add-zero}
 use native.Mathlib.Omega.{arith}
-use lib.Dec.{ltb, leb, eqb}
-use lib.ListN.{length, getD, set}
-use borrow.Author.Tests.{leb-true, leb-false, lt-ltb, le-ltb, eqb-true, eqb-false}
+use lib.Dec.{ltb, leb}
+use lib.ListN.{length, getD}
+use borrow.Author.Tests.{leb-true, leb-false, lt-ltb, le-ltb}
 use Rattle.csv.specs.declared.LogItem.{LogItem}
-use Rattle.csv.specs.declared.FirstBad.{FirstBad}
-use Rattle.csv.specs.Log.{logItem, Record, inThree, malformed, inRange, rises, risesAfter, countOfLane, itemRefusal, atRecord, firstBad}
-use Rattle.csv.specs.Seen.{risesBy, roomBy, refusalBy, seenWith, seenAfter, recordRefusalBy, recordSeen}
+use Rattle.csv.specs.Log.{logItem, inRange, rises, risesAfter, countOfLane, itemRefusal}
+use Rattle.csv.specs.Seen.{risesBy, roomBy, refusalBy, seenWith}
 use Rattle.csv.proofs.Logs.{in-range}
 
 -- the cells of some records: how many, the last one's stamp and lane, how many each lane has

@@ -5,7 +5,6 @@ use frame::Serial;
 ghost use mathlib.Core.Path.{_≡_};
 ghost use mathlib.Core.Bool.{true, _&&_};
 ghost use Prim.Native.Nat.{_+_, _<_};
-ghost use lib.ListN.{length, getD};
 ghost use Rattle.csv.specs.Log.{logItem, inRange, rises};
 ghost use Rattle.csv.specs.Seen.{risesBy, roomBy, refusalBy, seenWith, seenAfter};
 

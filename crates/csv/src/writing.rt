@@ -9,7 +9,7 @@ ghost use mathlib.Core.Path.{_≡_};
 ghost use mathlib.Core.List.{[]};
 ghost use Rattle.text.specs.Writing.{out, wrote};
 ghost use Rattle.csv.specs.Log.{logItem, logIn, firstBad};
-ghost use Rattle.csv.specs.Text.{recordText, recordsText, logText};
+ghost use Rattle.csv.specs.Text.{recordText, recordsText};
 ghost use Rattle.csv.specs.Writing.{recordsIn, handedText};
 
 // The refusal of the first bad record, or 0.

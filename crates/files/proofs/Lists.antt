@@ -2,17 +2,17 @@
 use mathlib.Core.Path.{_≡_, refl, sym, ap, ap₂, _∙_}
 use mathlib.Core.Bool.{Bool, true, false}
 use mathlib.Core.List.{List, [], _∷_, _++_, map}
-use Prim.Native.Nat.{ℕ, zero, suc, _+_, _<_, _≤_}
+use Prim.Native.Nat.{ℕ, zero, suc, _+_, _≤_}
 use native.Mathlib.Omega.{arith}
 use lib.Dec.{ltb}
 use lib.ListN.{length, length-append}
-use borrow.Author.Tests.{ltb-true, ltb-false, lt-ltb, le-ltb}
+use borrow.Author.Tests.{ltb-true, ltb-false}
 use Rattle.fields.specs.Fields.{crlf}
 use Rattle.csv.proofs.Finding.{records-one, records-none}
 use Rattle.csv.specs.declared.LogItem.{LogItem}
 use Rattle.csv.specs.Log.{Record, inThree, malformed, logIn, inRange, firstBad}
 use Rattle.csv.specs.Reading.{restAt, recordAt, afterRecord, recordsFrom}
-use Rattle.files.specs.Files.{Quotes, fields, recordFields}
+use Rattle.files.specs.Files.{Quotes, threeFields, recordFields}
 use Rattle.scan.proofs.Laws.{never}
 use Rattle.scan.proofs.Here.{Here, here-split, here-join}
 use Rattle.files.proofs.Records.{closing, Closes, Short, afterFields, record-complete, record-sound}
@@ -55,7 +55,7 @@ after-join s at q x u h r k =
 
 -- a record has a byte at least
 record-some : (q : Quotes) (x : LogItem) → 1 ≤ length (recordFields q x)
-unfolding fields
+unfolding threeFields
 record-some q x = simp length-append (omega arith)
 
 -- ---- what is written is read

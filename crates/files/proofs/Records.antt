@@ -15,7 +15,7 @@ use Rattle.fields.specs.Fields.{comma, crlf, readField, readName, readEnd, read
 use Rattle.csv.specs.declared.LogItem.{LogItem}
 use Rattle.csv.specs.Log.{inThree, logItem}
 use Rattle.csv.specs.Reading.{restAt, recordAt, afterRecord}
-use Rattle.files.specs.Files.{Quotes, field, fields, headerFields, recordFields}
+use Rattle.files.specs.Files.{Quotes, field, threeFields, headerFields, recordFields}
 use Rattle.scan.proofs.Laws.{never, digit-past}
 use Rattle.scan.proofs.Here.{Here, here-split, here-join}
 use Rattle.scan.proofs.Number.{done}
@@ -102,7 +102,7 @@ record-done s at next stamp lane word e r = (rw (r, e), rw r)
 
 pub header-complete : (s : List ℕ) (q : Quotes) (more : Bool) → Here s 0 (headerFields q) → Closes s (0 + length (headerFields q)) more
     → readHeader s ≡ done (0 + length (headerFields q) + length (closing more)) 0 0
-unfolding readHeader fields
+unfolding readHeader threeFields
 header-complete s q more h z =
     let r = three-complete s (field (q .first) (bytes "stamp")) (field (q .second) (bytes "lane")) (field (q .third) (bytes "word"))
     (readName s (bytes "stamp")) (readName s (bytes "lane")) (readName s (bytes "word")) 0 0 0 0 0 0 0 0 0
@@ -122,7 +122,7 @@ afterFields at q x = at + length (recordFields q x)
 pub record-complete : (s : List ℕ) (at : ℕ) (q : Quotes) (x : LogItem) (more : Bool) → Short x → Here s at (recordFields q x)
     → Closes s (afterFields at q x) more
     → (recordAt s at ≡ inThree x) × (afterRecord s at ≡ afterFields at q x + length (closing more))
-unfolding readStamp readRest fields Short
+unfolding readStamp readRest threeFields Short
 record-complete s at q x more l h z =
     let t = field (q .first) (decimal (x .stamp)) in
     let u = field (q .second) (decimal (x .lane)) in
@@ -168,7 +168,7 @@ end-back s at a b c e k = rw e (end-sound s (done at a b) (rw e at k) .1)
 pub header-sound : (s : List ℕ) → readHeader s .ok ≡ true
     → (q : Quotes) × (more : Bool) × Here s 0 (headerFields q) × Closes s (0 + length (headerFields q)) more
     × (readHeader s ≡ done (0 + length (headerFields q) + length (closing more)) 0 0)
-unfolding readHeader fields NameRead
+unfolding readHeader threeFields NameRead
 header-sound s k =
     let c1 = readName s (bytes "stamp") (done 0 0 0) in
     let c2 = readText s comma c1 in
@@ -193,7 +193,7 @@ header-sound s k =
 pub record-sound : (s : List ℕ) (at : ℕ) → restAt s at .ok ≡ true
     → (q : Quotes) × (x : LogItem) × (more : Bool) × Here s at (recordFields q x) × Closes s (afterFields at q x) more
     × (recordAt s at ≡ inThree x) × (afterRecord s at ≡ afterFields at q x + length (closing more))
-unfolding readStamp readRest fields FieldRead
+unfolding readStamp readRest threeFields FieldRead
 record-sound s at k =
     let c1 = readField s (done at 0 0) in
     let c2 = readText s comma c1 in

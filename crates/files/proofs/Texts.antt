@@ -9,10 +9,9 @@ use Rattle.text.specs.Bytes.{bytes}
 use Rattle.text.specs.Decimal.{decimal}
 use Rattle.fields.specs.Fields.{crlf}
 use Rattle.csv.specs.declared.LogItem.{LogItem}
-use Rattle.csv.specs.Log.{inRange, GoodLog}
+use Rattle.csv.specs.Log.{GoodLog}
 use Rattle.csv.specs.Text.{recordText, recordsText, logText, inTurn}
-use Rattle.files.specs.Files.{Quotes, noQuotes, field, fields, headerFields, recordFields, recordsAfter, fileText}
-use Rattle.scan.proofs.Decimal.{at-most-5, at-most-1}
+use Rattle.files.specs.Files.{Quotes, noQuotes, field, threeFields, headerFields, recordFields, recordsAfter, fileText}
 use Rattle.files.proofs.Records.{closing}
 use Rattle.csv.proofs.Logs.{AllIn, good-in, good-few}
 use Rattle.csv.proofs.Short.{numbers-length}
@@ -52,14 +51,14 @@ file-is header quotes last l =
 -- ---- the text that is written
 
 written-after : (l : List LogItem) → crlf ++ recordsText l ≡ afterHeader [] true l
-unfolding inTurn recordText afterHeader fields
+unfolding inTurn recordText afterHeader threeFields
 written-after [] = refl
 written-after (x ∷ l) =
     ap (λ (t : List ℕ). crlf ++ t)
     (append-assoc (recordFields noQuotes x) crlf (recordsText l) ∙ ap (λ (t : List ℕ). recordFields noQuotes x ++ t) (written-after l))
 
 pub written-file : (l : List LogItem) → logText l ≡ fileText noQuotes [] true l
-unfolding logText fields
+unfolding logText threeFields
 written-file l = ap (λ (t : List ℕ). headerFields noQuotes ++ t) (written-after l) ∙ sym (file-is noQuotes [] true l)
 
 -- ---- how long they are
@@ -69,8 +68,8 @@ field-length : (q : Bool) (t : List ℕ) → length (field q t) ≤ length t + 2
 field-length true t = simp length-append (omega arith)
 field-length false t = omega arith
 
-fields-length : (q : Quotes) (t u v : List ℕ) → length (fields q t u v) ≤ length t + length u + length v + 8
-unfolding fields
+fields-length : (q : Quotes) (t u v : List ℕ) → length (threeFields q t u v) ≤ length t + length u + length v + 8
+unfolding threeFields
 fields-length q t u v = simp length-append (omega (arith, field-length (q .first) t, field-length (q .second) u, field-length (q .third) v))
 
 after-length : (quotes : List Quotes) (last : Bool) (l : List LogItem) → AllIn l → length (afterHeader quotes last l) ≤ 21 * length l + 2

@@ -21,14 +21,14 @@ abbrev pub field : Bool → List ℕ → List ℕ
 field quoted t = cond quoted (quote ++ t ++ quote) t
 
 -- "record = field *(COMMA field)": three of them
-unfoldable pub fields : Quotes → List ℕ → List ℕ → List ℕ → List ℕ
-fields q a b c = field (q .first) a ++ comma ++ field (q .second) b ++ comma ++ field (q .third) c
+unfoldable pub threeFields : Quotes → List ℕ → List ℕ → List ℕ → List ℕ
+threeFields q a b c = field (q .first) a ++ comma ++ field (q .second) b ++ comma ++ field (q .third) c
 
 abbrev pub headerFields : Quotes → List ℕ
-headerFields q = fields q (bytes "stamp") (bytes "lane") (bytes "word")
+headerFields q = threeFields q (bytes "stamp") (bytes "lane") (bytes "word")
 
 abbrev pub recordFields : Quotes → LogItem → List ℕ
-recordFields q x = fields q (decimal (x .stamp)) (decimal (x .lane)) (decimal (x .word))
+recordFields q x = threeFields q (decimal (x .stamp)) (decimal (x .lane)) (decimal (x .word))
 
 -- "*(CRLF record)": an order each, with its quotes; no quotes where no choice is left
 unfoldable pub recordsAfter : List Quotes → List LogItem → List ℕ
@@ -36,6 +36,6 @@ recordsAfter quotes [] = []
 recordsAfter [] (x ∷ l) = crlf ++ recordFields noQuotes x ++ recordsAfter [] l
 recordsAfter (q ∷ quotes) (x ∷ l) = crlf ++ recordFields q x ++ recordsAfter quotes l
 
--- "file = [header CRLF] record *(CRLF record) [CRLF]", the header being there always
+-- "file = [header CRLF] record *(CRLF record) [CRLF]", here with the header always and then any number of records
 unfoldable pub fileText : Quotes → List Quotes → Bool → List LogItem → List ℕ
 fileText header quotes last l = headerFields header ++ recordsAfter quotes l ++ cond last crlf []

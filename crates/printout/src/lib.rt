@@ -4,7 +4,7 @@ use frame::Serial;
 use text::put_labelled;
 use text::put_text;
 ghost use mathlib.Core.Path.{_≡_};
-ghost use lib.ListN.{length, take};
+ghost use lib.ListN.{length};
 ghost use Rattle.roll.specs.Logs.{orderAt};
 ghost use Rattle.row.specs.Rows.{postIn};
 ghost use Rattle.text.specs.Writing.{out, wrote};

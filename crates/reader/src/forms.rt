@@ -12,7 +12,7 @@ ghost use mathlib.Core.Path.{_≡_};
 ghost use mathlib.Core.Bool.{cond, _&&_};
 ghost use lib.ListN.{length};
 ghost use Rattle.text.specs.Bytes.{bytes};
-ghost use Rattle.scan.specs.Scan.{stands, startAt, failed};
+ghost use Rattle.scan.specs.Scan.{stands, failed};
 ghost use Rattle.lines.specs.Forms.{orderForm, hearForm, beaconForm, rollForm, readForm, asRole, orRole, readRole, readPost, bitOf, postAdded, postsRead, noPosts, scanOf, ended, yardPosts, readYard};
 
 // `(order LANE WORD)`

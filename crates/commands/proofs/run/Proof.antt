@@ -1,5 +1,3 @@
-use native.Mathlib.Omega.{arith}
-use mathlib.Core.Path.{_∙_}
 use Rattle.commands.proofs.LaneFiles.{state-yard}
 use borrow.Author.Needs.{needs}
 use Rattle.commands.proofs.run.Statement.{statement}

@@ -1,4 +1,3 @@
-use native.Mathlib.Omega.{arith}
 use Rattle.csv.proofs.Entries.{bad-1, bad-none, bad-some}
 use borrow.Author.Needs.{needs}
 use Rattle.csv.proofs.drift_csv_first_bad.Statement.{statement}

@@ -1,5 +1,4 @@
-use native.Mathlib.Omega.{arith}
-use mathlib.Core.Path.{_≡_, _∙_}
+use mathlib.Core.Path.{_∙_}
 use mathlib.Core.Logic.{⊎-elim}
 use Prim.Native.Nat.{_-_}
 use Rattle.csv.proofs.ReadLaws.{at-first, at-next, Fields, fields-start, fields-next, fields-off, take-no, end-off, take-yes}

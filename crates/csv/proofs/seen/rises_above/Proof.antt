@@ -1,5 +1,4 @@
 use mathlib.Core.Path.{refl}
-use borrow.Author.Needs.{needs}
 use Rattle.csv.specs.Log.{rises}
 use Rattle.csv.proofs.seen.rises_above.Statement.{statement}
 use Rattle.csv.proofs.seen.rises_above.Tie as tie

@@ -1,2 +1,3 @@
 mod Laws
 pub mod Places
+pub mod Copies

@@ -5,19 +5,13 @@ use Prim.Native.Nat.{ℕ, zero, suc, _+_, _*_, _<_, _≤_}
 use native.Mathlib.Numerals.{add-one}
 use native.Mathlib.Omega.{arith}
 use lib.ListN.{length, getD, set, take, drop}
-use lib.Seq.{sets, length-take-le, take-suc, drop-cons, set-at, append-snoc}
+use lib.Seq.{sets}
 use borrow.Author.Tests.{lt-ltb, le-ltb}
 use Rattle.csv.specs.Log.{Record, inThree, malformed, logIn, itemNumbers, atRecord, firstBad}
 use Rattle.csv.specs.Reading.{recordAt, afterRecord, recordsFrom}
 use Rattle.csv.specs.Seen.{refusalBy, foundWith, itemFound, recordRefusalBy, recordSeen, recordFound}
 use Rattle.csv.proofs.Judging.{Judging, judging-start, judging-next, judging-bad, judging-end}
 use Rattle.csv.proofs.ReadLaws.{after-above}
-
--- one number more of a copy
-pub copy-more : (l d s : List ℕ) (i : ℕ) → l ≡ take i s ++ drop i d → i < length d → i < length s → set l i (getD s i 0) ≡ take (i + 1) s ++ drop (i + 1) d
-copy-more l d s i e h k =
-    rw (e, add-one, drop-cons d i 0 h, take-suc s i 0 k)
-    (set-at (take i s) (getD d i 0) (drop (suc i) d) (getD s i 0) i (length-take-le i s (omega arith)) ∙ sym (append-snoc (take i s) (getD s i 0) (drop (suc i) d)))
 
 -- the records from a place on, one and then the others, or none
 pub records-one : (s : List ℕ) (at n : ℕ) → at < length s → recordsFrom s at (suc n) ≡ recordAt s at ∷ recordsFrom s (afterRecord s at) n

@@ -142,9 +142,5 @@ pub(crate) fn copy(numbers: &mut [u16], found: &[u16], n: usize)
     requires { do ⌜ (n ≤ length (now found)) × ((← ⟦numbers.len()⟧) ≡ length (now found)) ⌝ }
     ensures { λ _. ⌜ now (numbers .exit) ≡ take n (now (found .entry)) ++ drop n (now (numbers .entry)) ⌝ }
 {
-    let mut i = 0usize;
-    while i < n {
-        numbers[i] = found[i];
-        i += 1;
-    }
+    cells::copy(&found[0..n], numbers)
 }

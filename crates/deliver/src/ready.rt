@@ -18,9 +18,9 @@ ghost use Rattle.deliver.specs.Loops.{sameAt, readyIn, lowered, leastBel
 // Where the parts that the loops read begin.
 const LAST: usize = row::LAST as usize;
 
-const KNOWN: usize = row::KNOWN as usize;
+pub(crate) const KNOWN: usize = row::KNOWN as usize;
 
-const TABLE: usize = row::TABLE as usize;
+pub(crate) const TABLE: usize = row::TABLE as usize;
 
 const STAMPS: usize = row::STAMPS as usize;
 
@@ -131,13 +131,7 @@ pub(crate) fn taken_from(row: &[u16], lane: u16) -> u16
     ensures { λ r. ⌜ r ≡ min (getD (postIn (now (row .entry)) .last) lane 0) 16 ⌝ }
 {
     let last = last_of(row, lane);
-    at_most_16(last.0)
-}
-
-fn at_most_16(n: u16) -> u16
-    ensures { λ r. ⌜ r ≡ min n 16 ⌝ }
-{
-    if n < SERIALS { n } else { SERIALS }
+    cells::smaller(last.0, SERIALS)
 }
 
 fn last_of(row: &[u16], lane: u16) -> SerialCell

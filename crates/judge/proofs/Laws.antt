@@ -1,7 +1,7 @@
 -- Laws of the judgement's loops. Assumes nothing.
 use mathlib.Core.Path.{_≡_, refl, sym, ap, ap₂, _∙_}
 use mathlib.Core.Bool.{Bool, true, false, cond, not, _&&_, _||_}
-use mathlib.Core.List.{List}
+use mathlib.Core.List.{List, _++_}
 use Prim.Native.Nat.{ℕ, zero, suc, _+_, _-_, _*_, _/_, _%_, _<_, _≤_, min}
 use native.Mathlib.Numerals.{add-one}
 use native.Mathlib.Omega.{arith}
@@ -12,13 +12,15 @@ use lib.ListN.{length, getD, set, take, drop, length-take, length-drop}
 use lib.Seq.{set-out}
 use Rattle.frame.specs.Lanes.{anyBelow}
 use Rattle.frame.proofs.Laws.{any-more}
-use Rattle.row.specs.Rows.{part, knownIn}
-use Rattle.row.proofs.LentParts.{fill-more, filled}
+use Rattle.cells.specs.Copies.{copied}
+use Rattle.cells.proofs.Copies.{copied-whole}
+use Rattle.row.specs.Rows.{postIn, knownIn, pastIn}
+use Rattle.row.proofs.LentRows.{known-lent}
 use Rattle.deliver.specs.Known.{advanced, knownBelow}
 use Rattle.deliver.specs.Loops.{marksBelow}
 use Rattle.deliver.proofs.Gathering.{marks-log}
 use Rattle.deliver.proofs.KnownLaws.{some-at, at-some}
-use Rattle.judge.specs.Parts.{takenIn, badOrderIn, badSerialIn, badUsedIn, badPlaceIn, badUnusedIn, badLoggedIn, advancedAt}
+use Rattle.judge.specs.Parts.{takenIn, badOrderIn, badSerialIn, badUsedIn, badPlaceIn, badUnusedIn, badLoggedIn}
 
 or-assoc : (a b c : Bool) → ((a || b) || c) ≡ (a || (b || c))
 or-assoc true b c = refl
@@ -124,9 +126,8 @@ no-place last marks known place lm lk h =
     go true = refl
     go false = refl
 
-pub a-place : (last marks known known′ : List ℕ) (place : ℕ) → place ≤ 127 → known′ ≡ advancedAt known (place / 16) (place % 16)
+pub a-place : (last marks known known′ : List ℕ) (place : ℕ) → place ≤ 127 → known′ ≡ advanced known place
     → PlaceIs last marks known place (not (eqb (getD marks place 0) 0) || not (ltb (place % 16) (getD last (place / 16) 0))) (set marks place 1) known′
-unfolding advanced
 a-place last marks known known′ place h e = let o : ltb 127 place ≡ false = le-ltb 127 place h in (rw o, (refl, e))
 
 -- one order of the log more
@@ -169,15 +170,11 @@ log-parts last log logged n x y e p q =
 
 -- ---- what a row knows
 
-known-length : (l : List ℕ) → 543 ≤ length l → length (knownIn l) ≡ 8
-unfolding knownIn part
-known-length l h = simp (length-take, length-drop) (omega arith)
-
--- one lane more
-pub learn-more : (l m known : List ℕ) (i v : ℕ) → 543 ≤ length l → length known ≡ 8 → i < 8 → take i (knownIn l) ≡ take i known → v ≡ getD known i 0
-    → knownIn m ≡ set (knownIn l) i v → take (i + 1) (knownIn m) ≡ take (i + 1) known
-learn-more l m known i v h k j e ev em =
-    rw (em, ev) (fill-more (knownIn l) known i (omega (arith, known-length l h)) (omega arith) e)
-
-pub learned : (l known : List ℕ) → 543 ≤ length l → length known ≡ 8 → take 8 (knownIn l) ≡ take 8 known → knownIn l ≡ known
-learned l known h k e = filled (knownIn l) known 8 (known-length l h) k e
+-- it was told by a copy
+pub learned : (l m known t : List ℕ) → 543 ≤ length l → length known ≡ 8 → t ≡ copied known (take (22 - 14) (drop 14 l))
+    → m ≡ take 14 l ++ (t ++ drop (22 - 14) (drop 14 l))
+    → (postIn m ≡ postIn l) × ((knownIn m ≡ known) × (pastIn m ≡ pastIn l))
+learned l m known t h k et em =
+    let w : length (take (22 - 14) (drop 14 l)) ≡ length known = simp (length-take, length-drop) (omega arith) in
+    let e : t ≡ known = et ∙ copied-whole known (take (22 - 14) (drop 14 l)) w in
+    known-lent l m known h k (rw e at em)

@@ -1,9 +1,9 @@
 -- The judgement's tests over numbers and single arrays: for the contracts of private functions. Assumes nothing.
 use Prim.Native.Nat.{ℕ, _+_, _*_, _/_, _%_}
-use mathlib.Core.Bool.{Bool, cond, not, _&&_, _||_}
+use mathlib.Core.Bool.{Bool, not, _&&_, _||_}
 use mathlib.Core.List.{List}
 use lib.Dec.{ltb, leb, eqb}
-use lib.ListN.{getD, set}
+use lib.ListN.{getD}
 use Rattle.frame.specs.Lanes.{anyBelow}
 use Rattle.post.specs.declared.Post.{Post}
 use Rattle.judge.specs.Judgement.{badNumber, badRole, badOwnSerial}
@@ -39,7 +39,3 @@ badUnusedIn log k = not (eqb (getD log k 0) 0)
 
 abbrev pub badLoggedIn : List ℕ → List ℕ → ℕ → ℕ → Bool
 badLoggedIn last log logged k = (ltb k logged && badUsedIn last log k) || (leb logged k && badUnusedIn log k)
-
--- an order of a lane is logged: where it is the next, one more is known (`advanced` of `deliver`, of its place)
-abbrev pub advancedAt : List ℕ → ℕ → ℕ → List ℕ
-advancedAt known lane order = cond (eqb (getD known lane 0) order) (set known lane (order + 1)) known

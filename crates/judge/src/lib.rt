@@ -5,14 +5,11 @@ mod log;
 mod orders;
 
 use frame::Frame;
-use row::SerialCell;
 ghost use mathlib.Core.Path.{_≡_};
-ghost use mathlib.Core.Bool.{not, _&&_, _||_};
 ghost use Prim.Native.Nat.{ℕ, _≤_};
 ghost use lib.Dec.{ltb};
-ghost use lib.ListN.{length, getD};
+ghost use lib.ListN.{getD};
 ghost use Rattle.frame.specs.Lanes.{anyBelow};
-ghost use Rattle.cells.specs.Sets.{hasLane, roleAstray};
 ghost use Rattle.row.specs.Rows.{postIn, knownIn, pastIn};
 ghost use Rattle.judge.specs.OnRows.{rowRefusal, judgedKnown};
 ghost use Rattle.judge.specs.Parts.{badNumbers};
@@ -28,7 +25,7 @@ pub fn refusal(row: &mut [u16]) -> u8
         return 12;
     }
     let numbers = row::read_numbers(row);
-    let n = log::at_most_128(numbers.logged);
+    let n = cells::smaller(numbers.logged, row::ORDERS);
     let numbers = bad_numbers(row);
     let orders = orders::bad_orders(&row[6..14], &row[158..286], &row[286..414]);
     if numbers | orders | log::bad_unused(&row[414..542], n) {
@@ -38,7 +35,7 @@ pub fn refusal(row: &mut [u16]) -> u8
     if log::bad_used(&row[6..14], &row[414..542], n, &mut known) {
         return 12;
     }
-    learn(row, &known);
+    cells::copy(&known, &mut row[14..22]);
     0
 }
 
@@ -53,7 +50,7 @@ fn bad_numbers(row: &[u16]) -> bool
     let logged = numbers.logged;
     let own = row::get_in(row, row::LAST, 8, lane as usize);
     let last = bad_last(&row[6..14]);
-    let roles = bad_roles(numbers.posts, numbers.sources, numbers.dests);
+    let roles = cells::role_astray(numbers.posts, numbers.sources, numbers.dests);
     (7 < lane) | (16 < serial.0) | (128 < logged) | last | roles | !(serial.0 == own)
 }
 
@@ -67,33 +64,4 @@ fn bad_last(last: &[u16]) -> bool
         bad = bad | (16 < last[i]);
     }
     bad
-}
-
-// A role at a lane without a post.
-fn bad_roles(posts: u16, sources: u16, dests: u16) -> bool
-    ensures { λ r. ⌜ r ≡ roleAstray posts sources dests ⌝ }
-{
-    let mut bad = false;
-    for i in 0..8u16 {
-        bad = bad | bad_role(posts, sources, dests, i);
-    }
-    bad
-}
-
-fn bad_role(posts: u16, sources: u16, dests: u16, i: u16) -> bool
-    ensures { λ r. ⌜ r ≡ ((hasLane sources i || hasLane dests i) && not (hasLane posts i)) ⌝ }
-{
-    (cells::has(sources, i) | cells::has(dests, i)) & !cells::has(posts, i)
-}
-
-// The row knows what `known` says.
-fn learn(row: &mut [u16], known: &[u16])
-    requires { do ⌜ (543 ≤ (← ⟦row.len()⟧)) × (length (now known) ≡ 8) ⌝ }
-    ensures { λ _. ⌜ postIn (now (row .exit)) ≡ postIn (now (row .entry)) ⌝ }
-    ensures known { λ _. ⌜ knownIn (now (row .exit)) ≡ now (known .entry) ⌝ }
-    ensures past { λ _. ⌜ pastIn (now (row .exit)) ≡ pastIn (now (row .entry)) ⌝ }
-{
-    for lane in 0..8u16 {
-        row::put_known(row, lane, SerialCell(known[lane as usize]));
-    }
 }

@@ -1,17 +1,11 @@
 // The log: an order that it repeats or that is not taken, or something past its end; and what it makes known.
 use cells::PLACES;
 ghost use mathlib.Core.Path.{_≡_};
-ghost use Prim.Native.Nat.{ℕ, _+_, _-_, _<_, _≤_, min};
+ghost use Prim.Native.Nat.{ℕ, _+_, _-_, _≤_};
 ghost use lib.ListN.{length, set};
 ghost use Rattle.frame.specs.Lanes.{anyBelow};
 ghost use Rattle.deliver.specs.Known.{advanced, knownBelow};
-ghost use Rattle.judge.specs.Parts.{badUsedIn, badPlaceIn, badUnusedIn, advancedAt};
-
-pub(crate) fn at_most_128(n: u16) -> u16
-    ensures { λ r. ⌜ r ≡ min n 128 ⌝ }
-{
-    if n < 128 { n } else { 128 }
-}
+ghost use Rattle.judge.specs.Parts.{badUsedIn, badPlaceIn, badUnusedIn};
 
 // Something from place n of the log on.
 pub(crate) fn bad_unused(log: &[u16], n: u16) -> bool
@@ -57,16 +51,6 @@ fn bad_place(place: u16, last: &[u16], marks: &mut [u8], known: &mut [u16]) -> b
     let order = place % 16;
     let again = !(marks[i] == 0);
     marks[i] = 1;
-    advance(known, lane, order);
+    deliver::advance(known, place);
     again | !(order < last[lane])
-}
-
-// An order of a lane is logged: where it is the next, one more is known.
-fn advance(known: &mut [u16], lane: usize, order: u16)
-    requires { ⌜ (lane < length (now known)) × (order < 16) ⌝ }
-    ensures { λ _. ⌜ now (known .exit) ≡ advancedAt (now (known .entry)) lane order ⌝ }
-{
-    if known[lane] == order {
-        known[lane] = order + 1;
-    }
 }

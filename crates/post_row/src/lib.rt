@@ -83,11 +83,7 @@ fn copy(from: &[u16], to: &mut [u16])
     requires { ⌜ length (now to) ≡ length (now from) ⌝ }
     ensures { λ _. ⌜ now (to .exit) ≡ now (from .entry) ⌝ }
 {
-    let mut i = 0;
-    while i < to.len() {
-        to[i] = from[i];
-        i += 1;
-    }
+    cells::copy(from, to)
 }
 
 fn widen(from: &[u8], to: &mut [u16])

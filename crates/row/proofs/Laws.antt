@@ -132,14 +132,6 @@ module _ (l : List ℕ) (i v : ℕ) where
       let other = part-apart l 414 128 i v in
       rw (cell 0 refl, cell 542 refl, cell 1 refl, cell 2 refl, cell 3 refl, cell 4 refl, cell 5 refl, other 6 8 refl, other 22 136 refl, other 158 128 refl, other 286 128 refl, part-put)
 
--- what is known is no part of the record
-pub put-known : (l : List ℕ) (i v : ℕ) → postIn (putIn l 14 8 i v) ≡ postIn l
-unfolding postIn
-put-known l i v =
-    let cell = cell-apart l 14 8 i v in
-    let other = part-apart l 14 8 i v in
-    rw (cell 0 refl, cell 542 refl, cell 1 refl, cell 2 refl, cell 3 refl, cell 4 refl, cell 5 refl, other 6 8 refl, other 22 136 refl, other 158 128 refl, other 286 128 refl, other 414 128 refl)
-
 -- ---- the parts of a step
 
 pub tick-row : (l a b m : List ℕ) (lane place serial clock : ℕ) → lane ≡ postIn l .lane → place ≡ entryPlace lane serial → a ≡ set l 3 clock → b ≡ set a 4 serial
@@ -173,11 +165,6 @@ same-past l m a n i v h e = go (ltb i n) refl
     go : (t : Bool) → ltb i n ≡ t → pastIn m ≡ pastIn l
     go true q = same-past-cell l m (a + i) v (omega (arith, ltb-true i n q)) (rw q at e)
     go false q = rw (e, q)
-
-pub known-put : (l m : List ℕ) (i v : ℕ) → m ≡ putIn l 14 8 i v
-    → (postIn m ≡ postIn l) × ((knownIn m ≡ set (knownIn l) i v) × (pastIn m ≡ pastIn l))
-unfolding knownIn
-known-put l m i v e = (rw e (put-known l i v), (rw e (part-put l 14 8 i v), same-past l m 14 8 i v (omega arith) e))
 
 pub log-put : (l m : List ℕ) (i v : ℕ) → m ≡ putIn l 414 128 i v
     → (postIn m ≡ withLog (postIn l) (set (postIn l .log) i v) (postIn l .logged)) × ((knownIn m ≡ knownIn l) × (pastIn m ≡ pastIn l))

@@ -1,4 +1,4 @@
 pub mod Exact
 pub mod Laws
 pub mod LentParts
-pub mod LentTable
+pub mod LentRows

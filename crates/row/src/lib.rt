@@ -132,21 +132,6 @@ pub fn put_log_at(row: &mut [u16], k: usize, place: u16)
     put_in(row, LOG, ORDERS, k, place)
 }
 
-// The serial up to which a lane's orders are known to be logged.
-pub fn known_of(row: &[u16], lane: u16) -> SerialCell
-    ensures { λ r. ⌜ r .0 ≡ getD (knownIn (now (row .entry))) lane 0 ⌝ }
-{
-    SerialCell(get_in(row, KNOWN, LANES, lane as usize))
-}
-
-pub fn put_known(row: &mut [u16], lane: u16, serial: SerialCell)
-    ensures { λ _. ⌜ postIn (now (row .exit)) ≡ postIn (now (row .entry)) ⌝ }
-    ensures known { λ _. ⌜ knownIn (now (row .exit)) ≡ set (knownIn (now (row .entry))) lane (serial .0) ⌝ }
-    ensures past { λ _. ⌜ pastIn (now (row .exit)) ≡ pastIn (now (row .entry)) ⌝ }
-{
-    put_in(row, KNOWN, LANES, lane as usize, serial.0)
-}
-
 // The last serial taken from a lane.
 pub fn last_taken(row: &[u16], lane: u8) -> SerialCell
     ensures { λ r. ⌜ r .0 ≡ lastOf (postIn (now (row .entry))) lane ⌝ }

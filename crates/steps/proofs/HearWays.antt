@@ -17,7 +17,7 @@ use Rattle.post.specs.Record.{lastOf, isSource}
 use Rattle.post.specs.Newest.{raisedBelow, newestEntries, orderFrame}
 use Rattle.post.specs.Taking.{kept, ticked, raisedPost, taken}
 use Rattle.row.specs.Rows.{part, postIn, knownIn, pastIn, withTable}
-use Rattle.row.proofs.LentTable.{table-lent}
+use Rattle.row.proofs.LentRows.{table-lent}
 use Rattle.deliver.specs.Known.{KnownDelivery, deliveredFrom}
 use Rattle.deliver.specs.OnRows.{deliveredRow}
 use Rattle.deliver.proofs.RowWays.{delivered-whole}

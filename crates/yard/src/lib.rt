@@ -40,7 +40,8 @@ pub fn fresh(state: &mut [u16], present: u8, sources: u8, dests: u8) -> u8
     ensures { λ r. ⌜ _≡_ {A = Made} (record { number = r; held = heldIn (now (state .exit)) }) (freshIn (heldIn (now (state .entry))) present sources dests) ⌝ }
 {
     let number = cells::pick(state.len() != LENGTH, 12, 0);
-    let number = cells::pick(making::role_astray(present, sources, dests), 12, number);
+    let astray = cells::role_astray(present as u16, sources as u16, dests as u16);
+    let number = cells::pick(astray, 12, number);
     let number = cells::pick(u8::count_ones(present) == 0, 3, number);
     if number != 0 {
         return number;

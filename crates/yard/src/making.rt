@@ -4,30 +4,10 @@ use crate::PRESENT;
 use crate::ROWS;
 use crate::SOURCES;
 ghost use mathlib.Core.Path.{_≡_};
-ghost use mathlib.Core.Bool.{not, _&&_, _||_};
 ghost use lib.ListN.{length, replicate};
-ghost use Rattle.cells.specs.Sets.{hasLane, roleAstray};
 ghost use Rattle.post.specs.Record.{freshPost};
 ghost use Rattle.row.specs.Rows.{postIn, knownIn};
 ghost use Rattle.yard.specs.Making.{FreshFront, FreshBelow, SameFront};
-
-// Whether a lane without a post has a role.
-pub(crate) fn role_astray(present: u8, sources: u8, dests: u8) -> bool
-    ensures { λ r. ⌜ r ≡ roleAstray present sources dests ⌝ }
-{
-    let mut found = false;
-    for lane in 0..8u16 {
-        found = found | astray_at(present as u16, sources as u16, dests as u16, lane);
-    }
-    found
-}
-
-fn astray_at(present: u16, sources: u16, dests: u16, lane: u16) -> bool
-    ensures { λ r. ⌜ r ≡ ((hasLane sources lane || hasLane dests lane) && not (hasLane present lane)) ⌝ }
-{
-    let role = cells::has(sources, lane) | cells::has(dests, lane);
-    role & !cells::has(present, lane)
-}
 
 // The cells before the rows: the sets of posts and of sources, and 0 in all others.
 pub(crate) fn front(state: &mut [u16], present: u16, sources: u16)

@@ -1,6 +1,5 @@
 pub mod Passed
 pub mod RaiseLaws
-pub mod NewestLaws
 pub mod AnswerLaws
 pub mod Ways
 pub mod HearWays

@@ -1,6 +1,5 @@
 // The hear step's refusals 21, 24, 26 and 28 to 30, and its parts 1 to 3.
 use crate::HearAnswer;
-use crate::newest;
 use frame::Entry;
 use frame::Frame;
 use frame::Serial;
@@ -14,7 +13,7 @@ ghost use lib.Dec.{ltb, leb};
 ghost use lib.ListN.{getD};
 ghost use Rattle.cells.specs.Sets.{hasLane};
 ghost use Rattle.cells.specs.Tables.{orderPlace};
-ghost use Rattle.frame.specs.Layout.{entryOf};
+ghost use Rattle.frame.specs.Layout.{noEntry, entryOf};
 ghost use Rattle.post.specs.Record.{isSource, lastOf};
 ghost use Rattle.post.specs.Newest.{raised, raisedBelow, orderFrame};
 ghost use Rattle.row.specs.Rows.{postIn, knownIn, pastIn, withTable};
@@ -23,9 +22,9 @@ ghost use Rattle.steps.specs.Steps.{otherAnswer};
 ghost use Rattle.steps.specs.Loops.{takenRaised};
 
 // Where the table stands in a row, and how many entries it has of a lane.
-pub(crate) const TABLE: usize = row::TABLE as usize;
+const TABLE: usize = row::TABLE as usize;
 
-pub(crate) const TABLE_END: usize = row::STAMPS as usize;
+const TABLE_END: usize = row::STAMPS as usize;
 
 const LANE_ENTRIES: usize = Serial::COUNT as usize;
 
@@ -141,7 +140,17 @@ fn own_entry(f: Frame, lane: u16) -> Entry
         let i = lane as usize;
         f.entries[i]
     } else {
-        newest::none()
+        none()
+    }
+}
+
+// No entry.
+fn none() -> Entry
+    ensures { λ r. ⌜ r ≡ noEntry ⌝ }
+{
+    Entry {
+        serial: Serial(0),
+        stamp: Stamp(0),
     }
 }
 

@@ -2,7 +2,6 @@
 // the log stands in the row. Hosts use the crate `single`, which judges first. The contracts cite specs/Knowing.antt, specs/Steps.antt
 // and specs/Values.antt.
 mod hearing;
-mod newest;
 mod ordering;
 
 use frame::Frame;

@@ -1,5 +1,4 @@
 // The order step's refusals 21 to 24, and what it does where none of them holds.
-use crate::newest;
 use frame::Frame;
 use frame::Serial;
 use frame::Stamp;

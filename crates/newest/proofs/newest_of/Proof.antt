@@ -1,9 +1,9 @@
-use Rattle.steps.proofs.NewestLaws.{newest-none, newest-found}
+use Rattle.newest.proofs.NewestLaws.{newest-none, newest-found}
 use mathlib.Core.Path.{refl, ap, sym}
 use native.Mathlib.Omega.{arith}
 use borrow.Author.Needs.{needs}
-use Rattle.steps.proofs.newest.newest_of.Statement.{statement}
-use Rattle.steps.proofs.newest.newest_of.Tie as tie
+use Rattle.newest.proofs.newest_of.Statement.{statement}
+use Rattle.newest.proofs.newest_of.Tie as tie
 
 last-under-requires : tie.Need-last-under-requires
 last-under-requires c κs = (search needs, omega arith, sym (ap (λ s. s .0) (c .before .before .greatest .ensures)))

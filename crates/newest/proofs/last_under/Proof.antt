@@ -1,11 +1,11 @@
-use Rattle.steps.specs.Loops.{lastBelow}
-use Rattle.steps.proofs.NewestLaws.{serial-is, greatest-bound, flagOf, flag-last, last-one, last-more, last-bound}
+use Rattle.newest.specs.Loops.{lastBelow}
+use Rattle.newest.proofs.NewestLaws.{serial-is, greatest-bound, flagOf, flag-last, last-one, last-more, last-bound}
 use Prim.Native.Nat.{_≤_, _<_, _-_, _%_}
 use mathlib.Core.Path.{_≡_, ap, _∙_}
 use native.Mathlib.Omega.{arith}
 use borrow.Author.Needs.{needs}
-use Rattle.steps.proofs.newest.last_under.Statement.{statement}
-use Rattle.steps.proofs.newest.last_under.Tie as tie
+use Rattle.newest.proofs.last_under.Statement.{statement}
+use Rattle.newest.proofs.last_under.Tie as tie
 
 abbrev Inv-loop : tie.InvT-loop
 Inv-loop table first stamp highest₀ serial₀ highest serial = (0 < serial) × (serial ≤ 17) × (highest ≡ flagOf (lastBelow table first (stamp .0) serial))

@@ -1,7 +1,7 @@
-use Rattle.steps.proofs.NewestLaws.{is-greatest-is}
+use Rattle.newest.proofs.NewestLaws.{is-greatest-is}
 use borrow.Author.Needs.{needs}
-use Rattle.steps.proofs.newest.is_greatest.Statement.{statement}
-use Rattle.steps.proofs.newest.is_greatest.Tie as tie
+use Rattle.newest.proofs.is_greatest.Statement.{statement}
+use Rattle.newest.proofs.is_greatest.Tie as tie
 
 returns : tie.Need-returns
 returns c = is-greatest-is _ _ _ (search needs) (search needs) (c .less .ensures)

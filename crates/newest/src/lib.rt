@@ -1,5 +1,5 @@
-// The newest entries of a row's table. The contracts of the loops cite specs/Loops.antt.
-use crate::hearing;
+// The newest entries of a row's table, which each broadcast of its post carries. The contract of `newest_entries` cites
+// specs/OnRows.antt, those of the loops specs/Loops.antt.
 use frame::Entry;
 use frame::Frame;
 use frame::Serial;
@@ -10,17 +10,23 @@ ghost use mathlib.Core.Bool.{cond};
 ghost use Prim.Native.Nat.{_+_, _-_, _<_, _≤_, max};
 ghost use lib.Dec.{eqb};
 ghost use Rattle.frame.specs.Layout.{noEntry};
-ghost use Rattle.frame.specs.declared.Entry.{Entry};
 ghost use Rattle.post.specs.Newest.{newest, newestEntries};
-ghost use Rattle.row.specs.Rows.{postIn};
-ghost use Rattle.steps.specs.Loops.{greatestBelow, lastBelow};
+ghost use Rattle.newest.specs.OnRows.{entriesIn};
+ghost use Rattle.newest.specs.Loops.{greatestBelow, lastBelow};
 
-// The newest entry of each lane.
-pub(crate) fn newest_entries(row: &[u16]) -> [Entry; Frame::LANES]
-    requires { do ⌜ 543 ≤ (← ⟦row.len()⟧) ⌝ }
-    ensures { λ r. ⌜ r ≡ newestEntries (postIn (now (row .entry)) .table) ⌝ }
+// Where the table stands in a row.
+const TABLE: usize = row::TABLE as usize;
+
+const TABLE_END: usize = row::STAMPS as usize;
+
+// The newest entry of each lane. A row that is cut short has none.
+pub fn newest_entries(row: &[u16]) -> [Entry; Frame::LANES]
+    ensures { λ r. ⌜ r ≡ entriesIn (now (row .entry)) ⌝ }
 {
-    entries_of(&row[hearing::TABLE..hearing::TABLE_END])
+    if row.len() < row::LENGTH {
+        return [none(); Frame::LANES];
+    }
+    entries_of(&row[TABLE..TABLE_END])
 }
 
 fn entries_of(table: &[u16]) -> [Entry; Frame::LANES]
@@ -35,7 +41,7 @@ fn entries_of(table: &[u16]) -> [Entry; Frame::LANES]
 }
 
 // No entry.
-pub(crate) fn none() -> Entry
+fn none() -> Entry
     ensures { λ r. ⌜ r ≡ noEntry ⌝ }
 {
     Entry {

@@ -1,11 +1,11 @@
-use Rattle.steps.specs.Loops.{entriesBelow}
-use Rattle.steps.proofs.NewestLaws.{entries-first, entries-more, entries-all}
+use Rattle.newest.specs.Loops.{entriesBelow}
+use Rattle.newest.proofs.NewestLaws.{entries-first, entries-more, entries-all}
 use Prim.Native.Nat.{_≤_, _-_}
 use mathlib.Core.Path.{_≡_, refl, _∙_}
 use native.Mathlib.Omega.{arith}
 use borrow.Author.Needs.{needs}
-use Rattle.steps.proofs.newest.entries_of.Statement.{statement}
-use Rattle.steps.proofs.newest.entries_of.Tie as tie
+use Rattle.newest.proofs.entries_of.Statement.{statement}
+use Rattle.newest.proofs.entries_of.Tie as tie
 
 abbrev Inv-loop : tie.InvT-loop
 Inv-loop table entries₀ lane₀ entries lane = (lane ≤ 8) × (entries ≡ entriesBelow table lane)

@@ -15,7 +15,7 @@ use Rattle.frame.specs.declared.Stamp.{Stamp}
 use Rattle.cells.specs.Tables.{stampUnder}
 use Rattle.cells.proofs.Places.{entry-read}
 use Rattle.post.specs.Newest.{newer, newestBelow, newest, newestEntries}
-use Rattle.steps.specs.Loops.{greatestBelow, lastBelow, entriesBelow}
+use Rattle.newest.specs.Loops.{greatestBelow, lastBelow, entriesBelow}
 
 -- a stamp and a serial are their numbers
 pub stamp-is : (s : Stamp) (n : ℕ) → s .0 ≡ n → s ≡ record { 0 = n }

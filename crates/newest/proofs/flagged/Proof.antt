@@ -1,8 +1,8 @@
-use Rattle.steps.proofs.NewestLaws.{flagged-is, flagged-bound}
+use Rattle.newest.proofs.NewestLaws.{flagged-is, flagged-bound}
 use native.Mathlib.Omega.{arith}
 use borrow.Author.Needs.{needs}
-use Rattle.steps.proofs.newest.flagged.Statement.{statement}
-use Rattle.steps.proofs.newest.flagged.Tie as tie
+use Rattle.newest.proofs.flagged.Statement.{statement}
+use Rattle.newest.proofs.flagged.Tie as tie
 
 mul-result : tie.Need-mul-result
 mul-result c = omega (arith, flagged-bound (c .before .before .args .stamp .0) (c .before .before .args .greatest .0) _ _ (c .before .before .pre .2) (c .before .is-greatest .ensures))

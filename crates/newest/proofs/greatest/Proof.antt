@@ -1,11 +1,11 @@
-use Rattle.steps.specs.Loops.{greatestBelow}
-use Rattle.steps.proofs.NewestLaws.{stamp-is, greatest-one, greatest-more}
+use Rattle.newest.specs.Loops.{greatestBelow}
+use Rattle.newest.proofs.NewestLaws.{stamp-is, greatest-one, greatest-more}
 use Prim.Native.Nat.{_≤_, _-_}
 use mathlib.Core.Path.{_≡_, ap}
 use native.Mathlib.Omega.{arith}
 use borrow.Author.Needs.{needs}
-use Rattle.steps.proofs.newest.greatest.Statement.{statement}
-use Rattle.steps.proofs.newest.greatest.Tie as tie
+use Rattle.newest.proofs.greatest.Statement.{statement}
+use Rattle.newest.proofs.greatest.Tie as tie
 
 abbrev Inv-loop : tie.InvT-loop
 Inv-loop table first stamp₀ serial₀ stamp serial = (serial ≤ 17) × (stamp .0 ≡ greatestBelow table first serial)

@@ -6,7 +6,7 @@ use native.Mathlib.Numerals.{add-one}
 use Rattle.air.proofs.Stretches.{length-stays}
 use Rattle.post.specs.Newest.{beaconFrame}
 use Rattle.steps.specs.Refusals.{notInYard}
-use Rattle.yard.specs.Yards.{postAt}
+use Rattle.state.specs.Yards.{postAt}
 use Rattle.yard.specs.Worlds.{World, beacon, single}
 use Rattle.laws.proofs.NewestLaws.{beacon-accepted, beacon-fits}
 use Rattle.laws.proofs.Broadcasts.{Sendable}

@@ -7,7 +7,7 @@ use native.Mathlib.Omega.{arith}
 use lib.ListN.{length}
 use borrow.Author.Tests.{lt-ltb, le-ltb, le-leb, lt-leb, eq-eqb}
 use Rattle.cells.specs.Sets.{hasLane}
-use Rattle.yard.specs.Yards.{postAt}
+use Rattle.state.specs.Yards.{postAt}
 use Rattle.yard.specs.Worlds.{World, beacon}
 use Rattle.roll.specs.Runs.{answer, sentBy}
 use Rattle.laws.proofs.TestLaws.{below-or-not, true-or-false}

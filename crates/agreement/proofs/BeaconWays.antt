@@ -10,8 +10,8 @@ use Rattle.post.specs.Newest.{beaconFrame}
 use Rattle.steps.specs.Refusals.{notInYard}
 use Rattle.steps.specs.Steps.{beaconStep}
 use Rattle.steps.specs.declared.BeaconAnswer as beaconing
-use Rattle.yard.specs.Yards.{postAt}
-use Rattle.yard.specs.Singles.{postBeacons, postBeaconsAir, withBeacons, yardBeacons, yardBeaconsAir}
+use Rattle.state.specs.Yards.{postAt, withBeacons}
+use Rattle.yard.specs.Singles.{postBeacons, postBeaconsAir, yardBeacons, yardBeaconsAir}
 use Rattle.yard.specs.Worlds.{World, beacon, single}
 use Rattle.laws.proofs.Broadcasts.{Sendable}
 use Rattle.agreement.proofs.AirViews.{spoken-frames}

@@ -14,7 +14,7 @@ use Rattle.cells.specs.Sets.{hasLane, roleAstray}
 use Rattle.post.specs.declared.Post.{Post}
 use Rattle.post.specs.Record.{freshPost}
 use Rattle.judge.specs.Judgement.{badRecord}
-use Rattle.yard.specs.Yards.{noPost, postAt, freshYard, yardRefusal}
+use Rattle.state.specs.Yards.{noPost, postAt, freshYard, yardRefusal}
 use Rattle.roll.specs.Logs.{logAt}
 use Rattle.laws.proofs.TestLaws.{below-or-not, and-parts}
 use Rattle.laws.proofs.Valid.{Valid, valid-judged}

@@ -12,7 +12,7 @@ use Rattle.post.specs.Record.{lastOf}
 use Rattle.post.specs.Taking.{taken}
 use Rattle.steps.specs.Refusals.{isNext, hearRefusal}
 use Rattle.steps.specs.Steps.{hearStep}
-use Rattle.yard.specs.Yards.{postAt}
+use Rattle.state.specs.Yards.{postAt}
 use Rattle.yard.specs.Singles.{frameAt}
 use Rattle.yard.specs.Worlds.{World, hear, single}
 use Rattle.laws.proofs.ValidSteps.{heardPost, heard-taken, heard-other, heard-shaped, heard-valid, hear-post}

@@ -17,7 +17,7 @@ use Rattle.post.specs.Taking.{raisedPost}
 use Rattle.steps.specs.Answers.{hearNumber}
 use Rattle.steps.specs.Steps.{hearTaken, hearOther, hearStep}
 use Rattle.steps.specs.declared.HearAnswer as hearings
-use Rattle.yard.specs.Yards.{postAt}
+use Rattle.state.specs.Yards.{postAt}
 use Rattle.yard.specs.Singles.{frameAt}
 use Rattle.yard.specs.Worlds.{World, hear}
 use Rattle.roll.specs.Runs.{one, answer, sentBy}

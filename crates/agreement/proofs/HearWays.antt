@@ -15,8 +15,8 @@ use Rattle.post.specs.Record.{lastOf}
 use Rattle.steps.specs.Refusals.{notInYard, isNext, hearRefusal}
 use Rattle.steps.specs.Steps.{hearOther, hearStep}
 use Rattle.steps.specs.declared.HearAnswer as hearings
-use Rattle.yard.specs.Yards.{postAt}
-use Rattle.yard.specs.Singles.{framesAfter, frameAt, postHears, postHearsAir, withPost, yardHears, yardHearsAir}
+use Rattle.state.specs.Yards.{postAt, withPost}
+use Rattle.yard.specs.Singles.{framesAfter, frameAt, postHears, postHearsAir, yardHears, yardHearsAir}
 use Rattle.yard.specs.Worlds.{World, hear, single}
 use Rattle.laws.proofs.Broadcasts.{Sendable}
 use Rattle.agreement.proofs.AirViews.{silent-air, silent-frames, spoken-frames}

@@ -11,7 +11,7 @@ use Rattle.post.specs.declared.Post as posts
 use Rattle.post.specs.Taking.{ownTaken}
 use Rattle.steps.specs.Refusals.{orderRefusal}
 use Rattle.steps.specs.Steps.{orderStep}
-use Rattle.yard.specs.Yards.{postAt}
+use Rattle.state.specs.Yards.{postAt}
 use Rattle.yard.specs.Worlds.{World, order, single}
 use Rattle.roll.specs.Runs.{Order}
 use Rattle.laws.proofs.Hearable.{orderable}

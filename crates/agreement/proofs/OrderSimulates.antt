@@ -12,7 +12,7 @@ use Rattle.deliver.specs.Delivery.{delivered}
 use Rattle.steps.specs.Refusals.{orderRefusal}
 use Rattle.steps.specs.Steps.{orderSent, orderStep}
 use Rattle.steps.specs.declared.OrderAnswer as orders
-use Rattle.yard.specs.Yards.{postAt}
+use Rattle.state.specs.Yards.{postAt}
 use Rattle.yard.specs.Worlds.{World, order}
 use Rattle.roll.specs.Runs.{answer, orderSentBy, sentBy}
 use Rattle.laws.proofs.TestLaws.{same-or-not, below-or-not}

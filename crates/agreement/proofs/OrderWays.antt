@@ -14,7 +14,7 @@ use Rattle.post.specs.Taking.{kept, ticked, ownTaken}
 use Rattle.steps.specs.Refusals.{orderRefusal}
 use Rattle.steps.specs.Steps.{orderStep}
 use Rattle.steps.specs.declared.OrderAnswer as orders
-use Rattle.yard.specs.Yards.{postAt}
+use Rattle.state.specs.Yards.{postAt}
 use Rattle.yard.specs.Singles.{postOrders, postOrdersAir, firstAfter, yardOrders, yardOrdersAir}
 use Rattle.yard.specs.Worlds.{World, order, single}
 use Rattle.laws.proofs.ValidLog.{delivered-log-only}

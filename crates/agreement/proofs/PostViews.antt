@@ -20,7 +20,7 @@ use Rattle.post.specs.Newest.{raisedBelow}
 use Rattle.post.specs.Taking.{kept, ticked, ownTaken, raisedPost, taken}
 use Rattle.deliver.specs.Delivery.{isTaken}
 use Rattle.steps.specs.Refusals.{isOrder, isNext}
-use Rattle.yard.specs.Yards.{noPost}
+use Rattle.state.specs.Yards.{noPost}
 use Rattle.roll.specs.Runs.{Order}
 use Rattle.roll.specs.Logs.{orderAt, ordersLogged}
 use Rattle.laws.proofs.ListLaws.{Mem}

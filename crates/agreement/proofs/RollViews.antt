@@ -7,7 +7,7 @@ use lib.Dec.{eqb}
 use lib.Count.{ones, onesIn, ones-step}
 use borrow.Author.Tests.{eqb-true, eqb-false, lt-ltb}
 use Rattle.cells.specs.Sets.{hasLane}
-use Rattle.yard.specs.Yards.{postAt}
+use Rattle.state.specs.Yards.{postAt}
 use Rattle.yard.specs.Worlds.{World}
 use Rattle.roll.specs.RollCall.{laneHears, lanesHears, postsHear, beaconsSent, sourcesBelow, beaconsHeard, postsHearBeacons}
 use Rattle.model.proofs.Model as model

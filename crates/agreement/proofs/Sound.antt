@@ -17,7 +17,7 @@ use Rattle.post.specs.Taking.{kept, ticked, ownTaken, raisedPost, taken}
 use Rattle.deliver.specs.Delivery.{delivered}
 use Rattle.steps.specs.Refusals.{orderRefusal, isNext, hearRefusal}
 use Rattle.steps.specs.Steps.{orderStep, hearStep}
-use Rattle.yard.specs.Yards.{noPost, postAt}
+use Rattle.state.specs.Yards.{noPost, postAt}
 use Rattle.yard.specs.Singles.{frameAt}
 use Rattle.yard.specs.Worlds.{World}
 use Rattle.laws.proofs.TestLaws.{same-or-not, true-or-false}

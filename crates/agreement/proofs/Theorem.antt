@@ -7,7 +7,7 @@ use native.Mathlib.Omega.{arith}
 use lib.ListN.{length, getD}
 use borrow.Author.Tests.{ne-eqb}
 use Rattle.cells.specs.Tables.{orderPlace}
-use Rattle.yard.specs.Yards.{postAt, freshYard, yardRefusal}
+use Rattle.state.specs.Yards.{postAt, freshYard, yardRefusal}
 use Rattle.yard.specs.Worlds.{World}
 use Rattle.roll.specs.declared.RollAnswer as calling
 use Rattle.roll.specs.RollCall.{rollSteps, rollRefusal, rollCall}

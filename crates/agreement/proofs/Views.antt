@@ -11,7 +11,7 @@ use Rattle.cells.specs.Tables.{stampUnder, orderPlace}
 use Rattle.post.specs.declared.Post as posts
 use Rattle.post.specs.Record.{lastOf}
 use Rattle.steps.specs.Refusals.{isOrder}
-use Rattle.yard.specs.Yards.{postAt}
+use Rattle.state.specs.Yards.{postAt}
 use Rattle.yard.specs.Singles.{frameAt}
 use Rattle.yard.specs.Worlds.{World}
 use Rattle.roll.specs.Logs.{ordersLogged}

@@ -13,7 +13,7 @@ use Rattle.cells.specs.Sets.{hasLane}
 use Rattle.post.specs.declared.Post as posts
 use Rattle.post.specs.Record.{lastOf}
 use Rattle.steps.specs.Refusals.{orderRefusal, isNext, clockPasses, lastStamp, hearRefusal}
-use Rattle.yard.specs.Yards.{postAt}
+use Rattle.state.specs.Yards.{postAt}
 use Rattle.yard.specs.Worlds.{World}
 use Rattle.laws.proofs.TestLaws.{same-or-not, true-or-false, and-parts, and-fails}
 use Rattle.laws.proofs.Hearable.{next-is, Hearable, hear-not-refused}

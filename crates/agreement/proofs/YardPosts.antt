@@ -9,7 +9,7 @@ use lib.Seq.{getD-set-same, getD-set-other}
 use Rattle.cells.specs.Sets.{hasLane}
 use Rattle.post.specs.declared.Post as posts
 use Rattle.deliver.specs.Delivery.{delivered}
-use Rattle.yard.specs.Yards.{noPost}
+use Rattle.state.specs.Yards.{noPost}
 use Rattle.laws.proofs.TestLaws.{same-or-not}
 use Rattle.model.proofs.Functions.{upd, upd-same, upd-other}
 use Rattle.model.proofs.Model as model

@@ -7,7 +7,7 @@ use Prim.Native.Nat.{ℕ, _+_, _*_, _-_, _<_}
 use lib.Count.{ones}
 use lib.ListN.{length}
 use Rattle.cells.specs.Sets.{hasLane}
-use Rattle.yard.specs.Yards.{freshYard, yardRefusal}
+use Rattle.state.specs.Yards.{freshYard, yardRefusal}
 use Rattle.yard.specs.Worlds.{World, worldOf, Single, single, singles}
 use Rattle.roll.specs.declared.RollAnswer as calling
 use Rattle.roll.specs.RollCall.{rollSteps}

@@ -6,7 +6,7 @@ use Prim.Native.Nat.{ℕ, _+_, _<_, _≤_}
 use lib.ListN.{getD}
 use Rattle.cells.specs.Tables.{orderPlace}
 use Rattle.judge.specs.Judgement.{badRecord}
-use Rattle.yard.specs.Yards.{postAt, yardRefusal}
+use Rattle.state.specs.Yards.{postAt, yardRefusal}
 use Rattle.yard.specs.Singles.{frameAt}
 use Rattle.yard.specs.Worlds.{World}
 use Rattle.roll.specs.Runs.{Step, answer, step, run, Order, sent}

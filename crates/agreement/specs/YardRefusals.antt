@@ -5,7 +5,7 @@ use mathlib.Core.Bool.{cond, not}
 use lib.Dec.{ltb, leb, eqb}
 use Rattle.air.specs.Air.{badAir}
 use Rattle.cells.specs.Sets.{hasLane}
-use Rattle.yard.specs.Yards.{postAt}
+use Rattle.state.specs.Yards.{postAt}
 use Rattle.yard.specs.Singles.{frameAt}
 use Rattle.yard.specs.Worlds.{World, order, hear, beacon}
 use Rattle.roll.specs.RollCall.{rollRefusal}

@@ -10,12 +10,12 @@ use text::put_text;
 // Bytes of the longest air, and of all that a script leaves: the air, and two for each cell of the state.
 pub(crate) const AIR: usize = air::LENGTH + 1;
 
-pub(crate) const LEFT: usize = AIR + 2 * yard::LENGTH;
+pub(crate) const LEFT: usize = AIR + 2 * state::LENGTH;
 
 // Where the number of frames stands after a whole air, and the last serials that the post of lane 0 took.
-const FRAMES: usize = air::LENGTH + 2 * yard::FRAMES;
+const FRAMES: usize = air::LENGTH + 2 * state::FRAMES;
 
-const LAST: usize = air::LENGTH + 2 * (yard::ROWS + row::LAST as usize);
+const LAST: usize = air::LENGTH + 2 * (state::ROWS + row::LAST as usize);
 
 // What a script prints over the first so many bytes of an air of zeros. A script that is refused leaves them as they were.
 pub(crate) fn prints(script: &[u8], bytes: usize, air: &mut [u8], came: &mut [u8]) -> usize {
@@ -33,7 +33,7 @@ pub(crate) fn prints(script: &[u8], bytes: usize, air: &mut [u8], came: &mut [u8
 
 // What a script leaves, over an air of so many zeros at the front: the air, then the cells of the state. Its last answer.
 pub(crate) fn leave(script: &[u8], bytes: usize, left: &mut [u8]) -> u64 {
-    let mut state = [0u16; yard::LENGTH];
+    let mut state = [0u16; state::LENGTH];
     if bytes > left.len() {
         return 0;
     }
@@ -54,8 +54,8 @@ pub(crate) fn shows(script: &[u8], letter: u8, number: usize, came: &mut [u8]) -
         ),
         b'n' => put_text(came, 0, part(&left, FRAMES, FRAMES + 2)),
         _ => {
-            let last = LAST + 2 * row::LENGTH * (number % yard::LANES);
-            put_text(came, 0, part(&left, last, last + 2 * yard::LANES))
+            let last = LAST + 2 * row::LENGTH * (number % state::LANES);
+            put_text(came, 0, part(&left, last, last + 2 * state::LANES))
         }
     }
 }

@@ -14,9 +14,9 @@ use Rattle.row.specs.Rows.{postIn}
 use Rattle.lines.specs.declared.Judged.{Judged}
 use Rattle.lines.specs.declared.Line.the-variants.{Yard}
 use Rattle.lines.specs.Lines.{judged}
-use Rattle.yard.specs.Yards as yards
-use Rattle.yard.specs.States.{whole, heldIn, rowOf, yardIn}
-use Rattle.yard.proofs.YardLaws.{at-yard}
+use Rattle.state.specs.Yards as yards
+use Rattle.state.specs.States.{whole, heldIn, rowOf, yardIn}
+use Rattle.state.proofs.StateLaws.{at-yard}
 use Rattle.roll.specs.Logs.{ordersLogged}
 use Rattle.meaning.specs.Script.{scriptWorld}
 use Rattle.fits.proofs.Printed.{printed}

@@ -3,7 +3,7 @@ use Prim.Native.Nat.{ℕ, _/_, _%_}
 use mathlib.Core.Bool.{cond}
 use mathlib.Core.List.{List, map}
 use Rattle.cells.specs.Sets.{hasLane}
-use Rattle.yard.specs.Yards.{Yard, postAt}
+use Rattle.state.specs.Yards.{Yard, postAt}
 use Rattle.roll.specs.Logs.{ordersLogged}
 use Rattle.csv.specs.Log.{itemNumbers}
 use Rattle.csv.specs.Writing.{csvWriteAnswer, bufferAfter}

@@ -7,7 +7,7 @@ ghost use Prim.Native.Nat.{_<_};
 ghost use lib.ListN.{length};
 ghost use lib.Seq.{sets};
 ghost use Rattle.row.specs.Rows.{postIn};
-ghost use Rattle.yard.specs.States.{yardIn};
+ghost use Rattle.state.specs.States.{yardIn};
 ghost use Rattle.csv.specs.Log.{itemNumbers};
 ghost use Rattle.desk.specs.Desk.{itemOf};
 ghost use Rattle.roll.specs.Logs.{orderAt, ordersLogged};

@@ -6,7 +6,7 @@ use frame::Frame;
 pub use said::put_said;
 ghost use mathlib.Core.Path.{_≡_};
 ghost use Rattle.lines.specs.Lines.{judged};
-ghost use Rattle.yard.specs.States.{yardIn};
+ghost use Rattle.state.specs.States.{yardIn};
 ghost use Rattle.commands.specs.Csv.{commandWorld, notMade, csvMade, csvBuffer};
 
 // The file of a lane's log: its length, or the refusal's number and the script's line where it is the script's own.
@@ -34,7 +34,7 @@ pub fn csv_of_lane(script: &[u8], lane: usize, buffer: &mut [u8]) -> CsvMade
     if buffer.len() != csv::BUFFER {
         return not_made(0, 6);
     }
-    let mut state = [0u16; yard::LENGTH];
+    let mut state = [0u16; state::LENGTH];
     run(script, &mut state);
     lane_log::put_lane(&state, lane, buffer)
 }

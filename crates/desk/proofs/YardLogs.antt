@@ -7,7 +7,7 @@ use Prim.Native.Nat.{ℕ, _<_, _≤_}
 use native.Mathlib.Omega.{arith}
 use lib.ListN.{length, List·getD-eq-default}
 use Rattle.post.specs.declared.Post.{Post}
-use Rattle.yard.specs.Yards.{noPost, postAt, yardRefusal}
+use Rattle.state.specs.Yards.{noPost, postAt, yardRefusal}
 use Rattle.yard.specs.Worlds.{World}
 use Rattle.roll.specs.Runs.{Step, run, Order}
 use Rattle.roll.specs.Logs.{ordersLogged, logAt}

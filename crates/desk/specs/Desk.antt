@@ -6,7 +6,7 @@ use mathlib.Core.Logic.{_⊎_}
 use mathlib.Core.List.{List, map, _++_}
 use lib.ListN.{length}
 use Rattle.laws.specs.Lists.{Begins}
-use Rattle.yard.specs.Yards.{yardRefusal}
+use Rattle.state.specs.Yards.{yardRefusal}
 use Rattle.yard.specs.Worlds.{World}
 use Rattle.roll.specs.Runs.{Step, run, Order}
 use Rattle.roll.specs.Logs.{logAt}

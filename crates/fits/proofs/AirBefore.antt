@@ -9,10 +9,9 @@ use lib.ListN.{length}
 use Rattle.lines.specs.declared.Line.{Line}
 use Rattle.lines.specs.declared.Line.the-variants.{Yard, Order, Hear, Beacon, Roll, Refused}
 use Rattle.lines.specs.Lines.{lineAt}
-use Rattle.yard.specs.Yards.{freshYard, yardRefusal, yardMade}
+use Rattle.state.specs.Yards.{freshYard, yardRefusal, yardMade, FreshYard}
 use Rattle.yard.specs.Worlds.{World, Single, order, hear, beacon, single, singles}
-use Rattle.yard.specs.Yards as yards
-use Rattle.yard.specs.Yards.{FreshYard}
+use Rattle.state.specs.Yards as yards
 use Rattle.yard.specs.Singles.{YardOrdered}
 use Rattle.yard.specs.Singles.{YardHeard}
 use Rattle.yard.specs.Singles.{YardBeaconed}

@@ -15,8 +15,7 @@ use Rattle.post.specs.declared.Post.{Post}
 use Rattle.steps.specs.Refusals.{notInYard}
 use Rattle.steps.specs.Steps.{orderStep, hearStep, beaconStep}
 use Rattle.steps.specs.declared.HearAnswer as hearings
-use Rattle.yard.specs.Yards.{Yard}
-use Rattle.yard.specs.Yards.{postAt}
+use Rattle.state.specs.Yards.{Yard, postAt}
 use Rattle.yard.specs.Singles.{framesAfter, stopsOrder, absentRefusal, stopsHearing, frameAt, stopsBeacon}
 use Rattle.yard.specs.Singles.{postOrders, postOrdersAir, postHears, postHearsAir, postBeacons, postBeaconsAir}
 use Rattle.yard.specs.Singles.{yardOrders, yardOrdersAir, yardHears, yardHearsAir, yardBeacons, yardBeaconsAir}

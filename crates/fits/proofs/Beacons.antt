@@ -8,8 +8,7 @@ use native.Mathlib.Omega.{arith}
 use lib.Dec.{eqb}
 use borrow.Author.Tests.{lt-ltb, le-ltb, eq-eqb, ne-eqb}
 use Rattle.cells.specs.Sets.{hasLane}
-use Rattle.yard.specs.Yards.{Yard}
-use Rattle.yard.specs.Yards.{postAt}
+use Rattle.state.specs.Yards.{Yard, postAt}
 use Rattle.yard.specs.Singles.{stopsBeacon, postBeacons, yardOrders, yardHears, yardBeacons}
 use Rattle.yard.specs.Worlds.{World, Single, order, hear, beacon, single, singles}
 use Rattle.roll.specs.RollCall.{laneHears, lanesHears, postsHear, beaconsSent, sourcesBelow, beaconsHeard, postsHearBeacons, rollSteps, rollRefusal, rollCall}

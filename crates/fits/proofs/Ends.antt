@@ -7,7 +7,7 @@ use native.Mathlib.Omega.{arith}
 use lib.ListN.{length}
 use Rattle.lines.specs.declared.Line.{Line}
 use Rattle.lines.specs.Lines.{linesFrom}
-use Rattle.yard.specs.Yards.{postAt, freshYard, yardRefusal}
+use Rattle.state.specs.Yards.{postAt, freshYard, yardRefusal}
 use Rattle.yard.specs.Worlds.{World}
 use Rattle.roll.specs.Runs.{Step, run, sent}
 use Rattle.roll.specs.Runs as runs

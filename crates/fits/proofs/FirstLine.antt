@@ -9,7 +9,7 @@ use lib.Count.{ones, ones-step}
 use borrow.Author.Tests.{eq-eqb, ne-eqb}
 use Rattle.cells.specs.Sets.{hasLane, roleAstray}
 use Rattle.lines.specs.Lines.{lineAt, numberOf, judged}
-use Rattle.yard.specs.Yards.{freshYard, yardRefusal, yardMade}
+use Rattle.state.specs.Yards.{freshYard, yardRefusal, yardMade}
 use Rattle.laws.proofs.TestLaws.{true-or-false, not-both, each-none}
 use Rattle.written.specs.Written.{Roles}
 use Rattle.written.proofs.LineLists.{lines-more}

@@ -14,7 +14,7 @@ use Rattle.laws.proofs.TestLaws.{same-or-not}
 use Rattle.lines.specs.declared.Line.{Line}
 use Rattle.lines.specs.declared.Line.the-variants.{Yard}
 use Rattle.lines.specs.Lines.{lineAt, judged}
-use Rattle.yard.specs.Yards.{yardRefusal}
+use Rattle.state.specs.Yards.{yardRefusal}
 use Rattle.yard.specs.Worlds.{World}
 use Rattle.roll.specs.Runs.{Step, run}
 use Rattle.roll.specs.Logs.{logAt}

@@ -8,7 +8,7 @@ use Rattle.lines.specs.declared.Line.{Line}
 use Rattle.lines.specs.declared.Line.the-variants.{Yard, Order, Hear, Beacon, Roll, Refused}
 use Rattle.lines.specs.Lines.{lineAt, numberOf}
 use Rattle.roll.specs.Runs.{run}
-use Rattle.yard.specs.Yards.{yardRefusal}
+use Rattle.state.specs.Yards.{yardRefusal}
 use Rattle.yard.specs.Worlds.{World}
 use Rattle.meaning.specs.Script.{stepOf, worldAfter, scriptStart, stepLines, scriptWorld}
 use Rattle.written.specs.Written.{lineText}

@@ -12,7 +12,7 @@ use borrow.Author.Tests.{le-ltb, eq-eqb}
 use Rattle.air.specs.Air.{badAir}
 use Rattle.cells.specs.Sets.{hasLane}
 use Rattle.lines.specs.declared.Line.{Line}
-use Rattle.yard.specs.Yards.{postAt, yardRefusal}
+use Rattle.state.specs.Yards.{postAt, yardRefusal}
 use Rattle.yard.specs.Singles.{frameAt}
 use Rattle.yard.specs.Worlds.{World, order, hear, beacon}
 use Rattle.roll.specs.RollCall.{rollRefusal}

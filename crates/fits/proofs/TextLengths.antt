@@ -10,8 +10,7 @@ use borrow.Author.Tests.{eq-eqb}
 use Rattle.text.specs.Decimal.{given, decimal}
 use Rattle.cells.specs.Sets.{hasLane}
 use Rattle.post.specs.declared.Post.{Post}
-use Rattle.yard.specs.Yards.{Yard}
-use Rattle.yard.specs.Yards.{postAt}
+use Rattle.state.specs.Yards.{Yard, postAt}
 use Rattle.roll.specs.Runs.{Order}
 use Rattle.roll.specs.Logs.{ordersLogged}
 use Rattle.meaning.specs.Texts.{badText, refusedText, itemText, itemsText, postText, postsText}

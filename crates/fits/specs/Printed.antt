@@ -8,7 +8,7 @@ use Rattle.lines.specs.declared.Line.the-variants.{Yard}
 use Rattle.lines.specs.Lines.{lineAt, judged}
 use Rattle.written.specs.Written.{Right}
 use Rattle.written.specs.WholeScripts.{textOf, RightSteps}
-use Rattle.yard.specs.Yards.{yardRefusal}
+use Rattle.state.specs.Yards.{yardRefusal}
 use Rattle.roll.specs.Runs.{Step, run}
 use Rattle.agreement.specs.Demand3.{Demand3, freshWorld}
 use Rattle.agreement.specs.YardFacts.{YardFacts}

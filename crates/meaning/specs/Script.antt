@@ -7,8 +7,8 @@ use Rattle.text.specs.Decimal.{given}
 use Rattle.lines.specs.declared.Line.{Line}
 use Rattle.lines.specs.declared.Line.the-variants.{Yard, Order, Hear, Beacon, Roll, Refused}
 use Rattle.lines.specs.Lines.{lineAt, nextOf, linesFrom, judged}
-use Rattle.yard.specs.Yards as yards
-use Rattle.yard.specs.Yards.{yardMade}
+use Rattle.state.specs.Yards as yards
+use Rattle.state.specs.Yards.{yardMade}
 use Rattle.yard.specs.Worlds.{World, order, hear, beacon}
 use Rattle.roll.specs.Runs.{Step, one, roll, answer, run}
 use Rattle.roll.specs.Answers.{answerNumber}

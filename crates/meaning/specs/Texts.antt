@@ -6,8 +6,7 @@ use Rattle.text.specs.Bytes.{bytes}
 use Rattle.text.specs.Decimal.{decimal}
 use Rattle.cells.specs.Sets.{hasLane}
 use Rattle.post.specs.declared.Post.{Post}
-use Rattle.yard.specs.Yards.{Yard}
-use Rattle.yard.specs.Yards.{postAt}
+use Rattle.state.specs.Yards.{Yard, postAt}
 use Rattle.roll.specs.Runs.{Order}
 use Rattle.roll.specs.Logs.{ordersLogged}
 

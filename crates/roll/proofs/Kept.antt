@@ -14,10 +14,10 @@ use Rattle.post.specs.Taking.{kept, ticked, raisedPost, taken}
 use Rattle.deliver.specs.Known.{deliveredFrom}
 use Rattle.steps.specs.Refusals.{isNext, hearRefusal}
 use Rattle.steps.specs.Knowing.{hearTook, hearsBy}
-use Rattle.yard.specs.Yards.{Yard, noPost, postAt}
+use Rattle.state.specs.Yards.{Yard, noPost, postAt}
 use Rattle.yard.specs.Singles.{stopsHearing, frameAt}
 use Rattle.yard.specs.Worlds.{Single, hear}
-use Rattle.yard.specs.States.{Held, whole, other}
+use Rattle.state.specs.States.{Held, whole, other}
 use Rattle.yard.specs.InState.{hearsIn, Here, singleIn, singlesIn}
 use Rattle.roll.specs.RollCall.{laneHears, lanesHears, postsHear}
 

@@ -4,9 +4,9 @@ use mathlib.Core.Bool.{Bool, true, false}
 use mathlib.Core.List.{List, _++_}
 use Prim.Native.Nat.{ℕ}
 use lib.Dec.{eqb}
-use Rattle.yard.specs.Yards.{Yard}
+use Rattle.state.specs.Yards.{Yard}
 use Rattle.yard.specs.Worlds.{World, order, hear, beacon, singles}
-use Rattle.yard.specs.States.{whole}
+use Rattle.state.specs.States.{whole}
 use Rattle.yard.specs.InState.{Here, singlesIn}
 use Rattle.yard.specs.Sound.{Holds, Does}
 use Rattle.yard.proofs.Theorem.{orders-sound, hears-sound, beacons-sound, single-sound, singles-sound}

@@ -14,11 +14,11 @@ use Rattle.row.specs.Rows.{part, postIn}
 use Rattle.row.proofs.Laws.{part-get}
 use Rattle.steps.specs.declared.HearAnswer as hearings
 use Rattle.steps.specs.declared.BeaconAnswer as beaconing
-use Rattle.yard.specs.Yards.{postAt}
+use Rattle.state.specs.Yards.{postAt}
 use Rattle.yard.specs.Worlds.{Single, hear, beacon}
-use Rattle.yard.specs.States.{Held, heldIn, yardIn}
+use Rattle.state.specs.States.{Held, heldIn, yardIn}
 use Rattle.yard.specs.InState.{After, after, hearsIn, beaconsIn, Here, hereIn, singleIn, singlesIn}
-use Rattle.yard.proofs.YardLaws.{held-whole, at-yard}
+use Rattle.state.proofs.StateLaws.{held-whole, at-yard}
 use Rattle.roll.specs.RollCall.{laneHears, lanesHears, postsHear, beaconsSent, sourcesBelow, beaconsHeard, postsHearBeacons}
 use Rattle.roll.specs.Calls.{laneHeard, ranIn}
 use Rattle.roll.proofs.Kept.{singles-append, firstOf, serialOf, Same, lane-keeps, lanes-keep, posts-keep, lanes-same}

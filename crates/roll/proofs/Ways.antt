@@ -9,9 +9,9 @@ use borrow.Author.Tests.{eq-eqb, ne-eqb, lt-ltb, le-ltb}
 use lib.Count.{ones}
 use lib.Dec.{ltb, eqb}
 use lib.ListN.{length, getD}
-use Rattle.yard.specs.States.{Held, heldIn, yardIn}
+use Rattle.state.specs.States.{Held, heldIn, yardIn}
 use Rattle.yard.specs.InState.{After, after, Here, hereIn, singlesIn}
-use Rattle.yard.proofs.YardLaws.{held-whole, held-other, frames-in, beacons-in}
+use Rattle.state.proofs.StateLaws.{held-whole, held-other, frames-in, beacons-in}
 use Rattle.roll.specs.declared.RollAnswer as calling
 use Rattle.roll.specs.RollCall.{postsHear, beaconsSent, postsHearBeacons, rollRefusal}
 use Rattle.roll.specs.Answers.{rollNumber}

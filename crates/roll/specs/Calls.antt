@@ -5,9 +5,9 @@ use mathlib.Core.Bool.{cond}
 use mathlib.Core.List.{List, [], _++_}
 use lib.Dec.{eqb}
 use lib.ListN.{length}
-use Rattle.yard.specs.Yards.{Yard, postAt}
+use Rattle.state.specs.Yards.{Yard, postAt}
 use Rattle.yard.specs.Worlds.{Single, order, hear, beacon, worldOf}
-use Rattle.yard.specs.States.{Held, whole, other}
+use Rattle.state.specs.States.{Held, whole, other}
 use Rattle.yard.specs.InState.{After, ordersIn, hearsIn, beaconsIn, Here, singleIn, singlesIn}
 use Rattle.roll.specs.RollCall.{laneHears, postsHear, beaconsSent, postsHearBeacons, rollRefusal}
 use Rattle.roll.specs.Runs.{Step, one, roll, Answer, ordered, heard, beaconed, called}

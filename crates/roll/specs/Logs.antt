@@ -6,7 +6,7 @@ use lib.Dec.{ltb}
 use lib.ListN.{getD, take}
 use Rattle.post.specs.declared.Post.{Post}
 use Rattle.deliver.specs.Delivery.{sortBy}
-use Rattle.yard.specs.Yards.{postAt}
+use Rattle.state.specs.Yards.{postAt}
 use Rattle.yard.specs.Worlds.{World}
 use Rattle.laws.specs.Lists.{RisingBy}
 use Rattle.roll.specs.Runs.{Order}

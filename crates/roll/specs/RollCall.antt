@@ -8,8 +8,7 @@ use lib.ListN.{length, getD}
 use Rattle.air.specs.Air.{badAir}
 use Rattle.cells.specs.Sets.{hasLane}
 use Rattle.cells.specs.Tables.{orderPlace}
-use Rattle.yard.specs.Yards.{Yard}
-use Rattle.yard.specs.Yards.{postAt}
+use Rattle.state.specs.Yards.{Yard, postAt}
 use Rattle.yard.specs.Worlds.{World, Single, hear, beacon, singles}
 use Rattle.roll.specs.declared.RollAnswer as calling
 

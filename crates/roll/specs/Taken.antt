@@ -1,7 +1,7 @@
 -- How many orders the posts of a yard have taken. Assumes nothing.
 use Prim.Native.Nat.{ℕ, zero, suc, _+_}
 use Rattle.post.specs.Record.{lastOf}
-use Rattle.yard.specs.Yards.{postAt}
+use Rattle.state.specs.Yards.{postAt}
 use Rattle.yard.specs.Worlds.{World}
 
 -- f 0 + .. + f (k - 1)

@@ -4,7 +4,7 @@ use mathlib.Core.Bool.{cond}
 use mathlib.Core.List.{List}
 use lib.Dec.{eqb}
 use lib.ListN.{length}
-use Rattle.yard.specs.States.{Held}
+use Rattle.state.specs.States.{Held}
 use Rattle.roll.specs.declared.RollAnswer as calling
 use Rattle.roll.specs.Calls.{rollStepsIn, rollRefusalIn}
 

@@ -8,7 +8,7 @@ ghost use Prim.Native.Nat.{_-_, _<_, _≤_};
 ghost use lib.ListN.{getD};
 ghost use Rattle.cells.specs.Sets.{hasLane};
 ghost use Rattle.yard.specs.Worlds.{hear, beacon};
-ghost use Rattle.yard.specs.States.{heldIn, yardIn};
+ghost use Rattle.state.specs.States.{heldIn, yardIn};
 ghost use Rattle.yard.specs.InState.{after, hereIn};
 ghost use Rattle.roll.specs.RollCall.{lanesHears, postsHear, beaconsSent, beaconsHeard, postsHearBeacons};
 ghost use Rattle.roll.specs.Calls.{laneHeard, rollStepsIn, ranIn, rollRefusalIn, callsIn};
@@ -28,14 +28,14 @@ pub fn call(state: &mut [u16], air: &mut [u8]) -> RollAnswer
     ensures number { λ r. ⌜ rollNumber r ≡ rollRefusalIn (heldIn (now (state .entry))) (now (air .entry)) ⌝ }
     ensures count { λ r. ⌜ rollCount r ≡ rollCountIn (heldIn (now (state .entry))) (now (air .entry)) ⌝ }
 {
-    if state.len() != yard::LENGTH {
+    if state.len() != state::LENGTH {
         return RollAnswer::Refused(12);
     }
     if air.len() != air::LENGTH {
         return RollAnswer::Refused(13);
     }
-    let sources = row::get(state, yard::SOURCES);
-    let left = beacons_left(row::get(state, yard::BEACONS_SENT));
+    let sources = row::get(state, state::SOURCES);
+    let left = beacons_left(row::get(state, state::BEACONS_SENT));
     if (left as u32) < u16::count_ones(sources) {
         return RollAnswer::Refused(27);
     }
@@ -58,10 +58,10 @@ fn run_steps(state: &mut [u16], air: &mut [u8]) -> u32
     requires { do ⌜ (← ⟦state.len()⟧) ≡ 4476 ⌝ }
     ensures { λ r. ⌜ after r (now (state .exit)) (now (air .exit)) ≡ ranIn (hereIn (now (state .entry)) (now (air .entry))) (rollStepsIn (heldIn (now (state .entry))) (now (air .entry))) ⌝ }
 {
-    let present = row::get(state, yard::PRESENT);
-    let sources = row::get(state, yard::SOURCES);
+    let present = row::get(state, state::PRESENT);
+    let sources = row::get(state, state::SOURCES);
     let heard = hear_orders(state, air, present);
-    let from = row::get(state, yard::FRAMES);
+    let from = row::get(state, state::FRAMES);
     let sent = send_beacons(state, air, sources);
     let done = hear_beacons(state, air, present, sources, from);
     heard + sent + done
@@ -105,12 +105,15 @@ fn hear_lane(state: &mut [u16], air: &mut [u8], p: u8, q: u8) -> u32
     if q == p {
         return 0;
     }
-    let sent = row::get(state, yard::ROWS + row::LENGTH * (q as usize) + row::SERIAL);
+    let sent = row::get(
+        state,
+        state::ROWS + row::LENGTH * (q as usize) + row::SERIAL,
+    );
     let mut serial = 0u16;
     while serial < sent {
         serial = serial + 1;
         let place = row::order_place(q, SerialCell(serial));
-        let k = row::get_in(state, yard::FIRST, 128, place);
+        let k = row::get_in(state, state::FIRST, 128, place);
         yard::hear(state, air, p as usize, k as usize);
     }
     sent as u32

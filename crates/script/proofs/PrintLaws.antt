@@ -12,9 +12,9 @@ use Rattle.text.proofs.Laws.{next}
 use Rattle.cells.specs.Sets.{hasLane}
 use Rattle.post.specs.declared.Post.{Post}
 use Rattle.row.specs.Rows.{postIn}
-use Rattle.yard.specs.Yards.{noPost}
-use Rattle.yard.specs.States.{rowOf, yardIn}
-use Rattle.yard.proofs.YardLaws.{at-yard}
+use Rattle.state.specs.Yards.{noPost}
+use Rattle.state.specs.States.{rowOf, yardIn}
+use Rattle.state.proofs.StateLaws.{at-yard}
 use Rattle.meaning.specs.Texts.{postText, postsText}
 
 not-true : (b : Bool) → not b ≡ true → b ≡ false

@@ -14,12 +14,13 @@ use Rattle.lines.specs.declared.Judged.{Judged}
 use Rattle.lines.specs.declared.Line.the-variants.{Yard, Order, Hear, Beacon, Roll, Refused}
 use Rattle.lines.specs.Lines.{lineAt, numberOf, nextOf, linesOf, judgedLines, judged}
 use Rattle.reader.proofs.LinesLaws.{line-above}
-use Rattle.yard.specs.Yards.{freshYard, yardRefusal}
+use Rattle.state.specs.Yards.{freshYard, yardRefusal}
 use Rattle.yard.specs.Worlds.{World}
-use Rattle.yard.specs.States.{Held, whole, heldIn, yardIn, knownsIn}
-use Rattle.yard.specs.InState.{Here, hereIn, Made, freshIn, nothingKnown}
+use Rattle.state.specs.States.{Held, whole, heldIn, yardIn, knownsIn}
+use Rattle.state.specs.Fresh.{Made, freshIn, nothingKnown}
+use Rattle.yard.specs.InState.{Here, hereIn}
 use Rattle.yard.specs.Sound.{Holds}
-use Rattle.yard.proofs.YardLaws.{held-whole}
+use Rattle.state.proofs.StateLaws.{held-whole}
 use Rattle.yard.proofs.Theorem.{state-sound}
 use Rattle.meaning.specs.Texts.{badText, postsText}
 use Rattle.meaning.specs.Script.{yardOf, scriptStart, stepLines, worldAfter, refusedLines, scriptWorld, scriptText, printout, airAfter}

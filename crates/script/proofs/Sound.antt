@@ -7,7 +7,7 @@ use lib.Dec.{eqb}
 use Rattle.text.specs.Decimal.{given}
 use Rattle.lines.specs.declared.Line.{Line}
 use Rattle.yard.specs.Worlds.{World}
-use Rattle.yard.specs.States.{whole}
+use Rattle.state.specs.States.{whole}
 use Rattle.yard.specs.InState.{Here}
 use Rattle.yard.specs.Sound.{Holds}
 use Rattle.roll.specs.Runs.{Step, run}

@@ -10,7 +10,7 @@ use Rattle.told.specs.Told.{orderTold, hearTold, beaconTold}
 use Rattle.lines.specs.declared.Line.{Line}
 use Rattle.lines.specs.declared.Line.the-variants.{Yard, Order, Hear, Beacon, Roll, Refused}
 use Rattle.yard.specs.Worlds.{order, hear, beacon}
-use Rattle.yard.specs.States.{heldIn}
+use Rattle.state.specs.States.{heldIn}
 use Rattle.yard.specs.InState.{After, after, ordersIn, hearsIn, beaconsIn, Here, hereIn, singleIn}
 use Rattle.roll.specs.declared.RollAnswer as calling
 use Rattle.roll.specs.Answers.{rollNumber}

@@ -8,8 +8,9 @@ use Rattle.text.specs.Decimal.{given}
 use Rattle.lines.specs.declared.Line.{Line}
 use Rattle.lines.specs.declared.Line.the-variants.{Yard, Order, Hear, Beacon, Roll, Refused}
 use Rattle.lines.specs.Lines.{lineAt, linesFrom}
-use Rattle.yard.specs.States.{Held, whole, other}
-use Rattle.yard.specs.InState.{Here, nothingKnown}
+use Rattle.state.specs.States.{Held, whole, other}
+use Rattle.state.specs.Fresh.{nothingKnown}
+use Rattle.yard.specs.InState.{Here}
 use Rattle.roll.specs.Runs.{Step}
 use Rattle.roll.specs.Answers.{answerNumber}
 use Rattle.roll.specs.Calls.{answersIn, stepIn}

@@ -5,7 +5,7 @@ use mathlib.Core.List.{List}
 use lib.Dec.{eqb}
 use lib.ListN.{length}
 use Rattle.lines.specs.Lines.{judged}
-use Rattle.yard.specs.States.{Held, whole, heldIn}
+use Rattle.state.specs.States.{Held, whole, heldIn}
 use Rattle.meaning.specs.Script.{scriptStart, stepLines, scriptWorld}
 use Rattle.script.specs.Told.{noStep, badScript, badState, lastTold}
 use Rattle.script.specs.OnState.{scriptKnowns}

@@ -8,7 +8,7 @@ ghost use Prim.Native.Nat.{_≤_};
 ghost use lib.ListN.{length};
 ghost use Rattle.text.specs.Writing.{out, wrote};
 ghost use Rattle.lines.specs.Lines.{judged};
-ghost use Rattle.yard.specs.States.{heldIn};
+ghost use Rattle.state.specs.States.{heldIn};
 ghost use Rattle.yard.specs.InState.{hereIn};
 ghost use Rattle.meaning.specs.Script.{stepLines, scriptWorld, scriptText};
 ghost use Rattle.script.specs.Run.{bytesPrinted, outputAfter, airLeft};
@@ -50,7 +50,7 @@ pub extern "C" fn drift_run_script(script: &[u8], air: &mut [u8], output: &mut [
     if verdict.number != 0 {
         return printout::put_bad(output, 0, verdict.line, verdict.number);
     }
-    let mut state = [UNWRITTEN; yard::LENGTH];
+    let mut state = [UNWRITTEN; state::LENGTH];
     print_good(script, &mut state, air, output)
 }
 
@@ -62,7 +62,7 @@ pub extern "C" fn drift_script_state(script: &[u8], air: &mut [u8], state: &mut 
     ensures held { λ _. ⌜ heldIn (now (state .exit)) ≡ stateHeld (now (script .entry)) (now (air .entry)) (now (state .entry)) ⌝ }
     ensures bytes { λ _. ⌜ now (air .exit) ≡ stateAir (now (script .entry)) (now (air .entry)) (now (state .entry)) ⌝ }
 {
-    if state.len() != yard::LENGTH {
+    if state.len() != state::LENGTH {
         return told::told(12, 10, 0, 0, 0, 0);
     }
     let verdict = reader::judge(script);
@@ -93,7 +93,7 @@ fn run_good(script: &[u8], state: &mut [u16], air: &mut [u8], output: &mut [u8])
 {
     let first_line = reader::read_line(script, 0);
     let s = line_steps::sets_of(first_line);
-    yard::fresh(state, s.present, s.sources, s.dests);
+    state::fresh(state, s.present, s.sources, s.dests);
     let from = lines::next_of(script, first_line);
     run_lines(script, state, air, output, from)
 }

@@ -7,7 +7,7 @@ ghost use lib.ListN.{getD};
 ghost use Rattle.cells.specs.Sets.{hasLane};
 ghost use Rattle.row.specs.Rows.{postIn};
 ghost use Rattle.text.specs.Writing.{out, wrote};
-ghost use Rattle.yard.specs.States.{rowOf, yardIn};
+ghost use Rattle.state.specs.States.{rowOf, yardIn};
 ghost use Rattle.meaning.specs.Texts.{postText, postsText};
 
 // The posts, a line each in rising lane order.

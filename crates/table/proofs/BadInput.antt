@@ -4,7 +4,7 @@ use Prim.Native.Nat.{ℕ}
 use mathlib.Core.Path.{_≡_, refl}
 use mathlib.Core.List.{List}
 use lib.ListN.{length}
-use Rattle.yard.specs.Yards.{freshYard}
+use Rattle.state.specs.Yards.{freshYard}
 use Rattle.yard.specs.Singles.{postOrders, postOrdersAir, firstAfter, yardOrders, yardOrdersAir, postHears, postHearsAir, yardHears, yardHearsAir, postBeacons, postBeaconsAir, yardBeacons, yardBeaconsAir}
 use Rattle.yard.specs.Worlds.{World, order, hear, beacon, single}
 use Rattle.roll.specs.RollCall.{rollRefusal, rollCall, rollCallAir}

@@ -6,8 +6,7 @@ use lib.ListN.{replicate}
 use Rattle.steps.specs.declared.OrderAnswer as orders
 use Rattle.steps.specs.declared.HearAnswer as hearings
 use Rattle.steps.specs.declared.BeaconAnswer as beaconing
-use Rattle.yard.specs.Yards.{Yard}
-use Rattle.yard.specs.Yards.{postAt, freshYard}
+use Rattle.state.specs.Yards.{Yard, postAt, freshYard}
 use Rattle.yard.specs.Worlds.{World, order, hear, beacon}
 use Rattle.roll.specs.declared.RollAnswer as calling
 use Rattle.roll.specs.Runs.{Step, one, Answer, ordered, heard, beaconed, called, answer, step, Order}

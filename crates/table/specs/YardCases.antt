@@ -3,7 +3,7 @@ use mathlib.Core.Path.{_≡_}
 use mathlib.Core.List.{[], _∷_, _++_}
 use Rattle.air.specs.Air.{stretchAt}
 use Rattle.post.specs.Record.{lastOf}
-use Rattle.yard.specs.Yards.{postAt}
+use Rattle.state.specs.Yards.{postAt}
 use Rattle.yard.specs.Worlds.{order, hear, beacon}
 use Rattle.roll.specs.RollCall.{rollSteps}
 use Rattle.roll.specs.Runs.{one, roll, answer, run, sent}

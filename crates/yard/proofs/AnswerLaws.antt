@@ -18,9 +18,9 @@ use Rattle.steps.specs.declared.OrderAnswer.{OrderAnswer}
 use Rattle.steps.specs.declared.HearAnswer.{HearAnswer}
 use Rattle.steps.specs.declared.BeaconAnswer.{BeaconAnswer}
 use Rattle.steps.proofs.AnswerLaws as steps
-use Rattle.yard.specs.Yards.{postAt}
+use Rattle.state.specs.Yards.{postAt}
 use Rattle.yard.specs.Singles.{stopsHearing, frameAt}
-use Rattle.yard.specs.States.{Held, whole, other}
+use Rattle.state.specs.States.{Held, whole, other}
 use Rattle.yard.specs.InState.{After, ordersIn, hearsIn, beaconsIn}
 use Rattle.yard.specs.Answers.{orderRefusalIn, orderSerialIn, orderStampIn, orderCountIn, hearRefusalIn, hearCountIn, beaconRefusalIn}
 

@@ -11,11 +11,11 @@ use Rattle.row.proofs.Laws.{cell-apart}
 use Rattle.steps.specs.Steps.{beaconStep}
 use Rattle.steps.specs.declared.BeaconAnswer as beaconing
 use Rattle.steps.specs.declared.Beaconed.{Beaconed}
-use Rattle.yard.specs.Yards.{Yard, postAt}
-use Rattle.yard.specs.Singles.{framesAfter, stopsBeacon, withBeacons}
-use Rattle.yard.specs.States.{Held, whole, other, rowOf, yardIn, knownsIn, heldIn}
+use Rattle.state.specs.Yards.{Yard, postAt, withBeacons}
+use Rattle.yard.specs.Singles.{framesAfter, stopsBeacon}
+use Rattle.state.specs.States.{Held, whole, other, rowOf, yardIn, knownsIn, heldIn}
 use Rattle.yard.specs.InState.{After, after, beaconsIn}
-use Rattle.yard.proofs.YardLaws.{held-whole, held-other, at-yard, frames-in, beacons-in, lentRow, lent-is, beacons-yard, beacons-knowns, frames-held}
+use Rattle.state.proofs.StateLaws.{held-whole, held-other, at-yard, frames-in, beacons-in, lentRow, lent-is, beacons-yard, beacons-knowns, frames-held}
 use Rattle.yard.proofs.PartWays.{Sends}
 
 -- refused: 4, 12, and what stops it

@@ -10,12 +10,12 @@ use Rattle.air.specs.Air.{framesWith}
 use Rattle.row.specs.Rows.{postIn, knownIn}
 use Rattle.steps.specs.Knowing.{Stepped, stepped, hearsBy}
 use Rattle.steps.specs.declared.HearAnswer as hearings
-use Rattle.yard.specs.Yards.{Yard, postAt}
-use Rattle.yard.specs.Singles.{framesAfter, stopsHearing, frameAt, withPost}
-use Rattle.yard.specs.States.{Held, whole, other, rowOf, yardIn, knownsIn, heldIn}
+use Rattle.state.specs.Yards.{Yard, postAt, withPost}
+use Rattle.yard.specs.Singles.{framesAfter, stopsHearing, frameAt}
+use Rattle.state.specs.States.{Held, whole, other, rowOf, yardIn, knownsIn, heldIn}
 use Rattle.yard.specs.InState.{After, after, hearsIn}
 use Rattle.row.proofs.LentParts.{putPart}
-use Rattle.yard.proofs.YardLaws.{held-whole, held-other, at-yard, at-knowns, frames-in, front-cell, row-long, row-yard, row-knowns, lentRow, rowBack, lent-is, back-is, lent-length, frames-held}
+use Rattle.state.proofs.StateLaws.{held-whole, held-other, at-yard, at-knowns, frames-in, front-cell, row-long, row-yard, row-knowns, lentRow, rowBack, lent-is, back-is, lent-length, frames-held}
 use Rattle.yard.proofs.PartWays.{Sends}
 
 -- refused: 4, 12, and what stops it

@@ -1,10 +1,7 @@
-pub mod YardLaws
 pub mod PartWays
 pub mod HearWays
 pub mod AnswerLaws
 pub mod BeaconWays
 pub mod OrderWays
-pub mod FreshWays
-pub mod Exact
 pub mod Sound
 pub mod Theorem

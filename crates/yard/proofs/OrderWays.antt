@@ -19,12 +19,12 @@ use Rattle.steps.specs.Refusals.{orderRefusal}
 use Rattle.steps.specs.Steps.{orderSent, orderStep}
 use Rattle.steps.specs.Knowing.{Stepped, stepped, ordersBy}
 use Rattle.steps.specs.declared.OrderAnswer as orders
-use Rattle.yard.specs.Yards.{Yard, postAt}
-use Rattle.yard.specs.Singles.{framesAfter, withPost}
-use Rattle.yard.specs.States.{Held, whole, other, rowOf, yardIn, knownsIn, heldIn}
+use Rattle.state.specs.Yards.{Yard, postAt, withPost}
+use Rattle.yard.specs.Singles.{framesAfter}
+use Rattle.state.specs.States.{Held, whole, other, rowOf, yardIn, knownsIn, heldIn}
 use Rattle.yard.specs.InState.{After, after, withOrder, ordersIn}
 use Rattle.row.proofs.LentParts.{putPart}
-use Rattle.yard.proofs.YardLaws.{held-whole, held-other, at-yard, at-knowns, frames-in, front-cell, row-long, row-yard, row-knowns, lentRow, rowBack, lent-is, back-is, lent-length, frames-yard, frames-knowns, withFirst, first-held}
+use Rattle.state.proofs.StateLaws.{held-whole, held-other, at-yard, at-knowns, frames-in, front-cell, row-long, row-yard, row-knowns, lentRow, rowBack, lent-is, back-is, lent-length, frames-yard, frames-knowns, withFirst, first-held}
 use Rattle.yard.proofs.PartWays.{Sends, Noted, no-kind}
 
 -- refused: 4, 5, 12, 13

@@ -14,9 +14,9 @@ use Rattle.deliver.specs.Known.{Known}
 use Rattle.steps.specs.Steps.{orderStep, hearStep}
 use Rattle.steps.specs.Knowing.{ordersBy, hearsBy}
 use Rattle.steps.proofs.KnownSteps.{orders-known, hears-known}
-use Rattle.yard.specs.Yards.{Yard, noPost, postAt}
+use Rattle.state.specs.Yards.{Yard, noPost, postAt}
 use Rattle.yard.specs.Singles.{stopsOrder, firstAfter, postOrders, postOrdersAir, yardOrders, yardOrdersAir, stopsHearing, frameAt, postHears, postHearsAir, yardHears, yardHearsAir, stopsBeacon, postBeacons, postBeaconsAir, yardBeacons, yardBeaconsAir}
-use Rattle.yard.specs.States.{whole}
+use Rattle.state.specs.States.{whole}
 use Rattle.yard.specs.InState.{ordersIn, hearsIn, beaconsIn}
 use Rattle.yard.specs.Sound.{Sound}
 

@@ -10,14 +10,15 @@ use lib.ListN.{replicate}
 use borrow.Author.Tests.{eqb-false}
 use Rattle.post.specs.Record.{freshPost}
 use Rattle.deliver.proofs.KnownLaws.{known-none}
-use Rattle.yard.specs.Yards.{Yard, noPost, freshYard, yardRefusal}
+use Rattle.state.specs.Yards.{Yard, noPost, freshYard, yardRefusal}
 use Rattle.yard.specs.Singles.{yardOrders, yardHears, yardBeacons}
 use Rattle.yard.specs.Worlds.{World, worldOf, Single, order, hear, beacon, single, singles}
-use Rattle.yard.specs.States.{Held, whole, other}
-use Rattle.yard.specs.InState.{After, after, ordersIn, hearsIn, beaconsIn, nothingKnown, freshIn, Here, hereIn, singleIn, singlesIn}
+use Rattle.state.specs.States.{Held, whole, other}
+use Rattle.state.specs.Fresh.{nothingKnown, freshIn}
+use Rattle.yard.specs.InState.{After, after, ordersIn, hearsIn, beaconsIn, Here, hereIn, singleIn, singlesIn}
 use Rattle.yard.specs.Sound.{Sound, Holds, Does, StateSound}
-use Rattle.yard.proofs.YardLaws.{at-lane}
-use Rattle.yard.proofs.Exact.{held-all}
+use Rattle.state.proofs.StateLaws.{at-lane}
+use Rattle.state.proofs.Exact.{held-all}
 use Rattle.yard.proofs.Sound.{orders-whole, hears-whole, beacons-whole}
 
 -- ---- what a state holds

@@ -7,9 +7,9 @@ use lib.ListN.{getD}
 use Rattle.air.specs.Air.{badAir}
 use Rattle.steps.specs.Refusals.{orderRefusal, hearRefusal}
 use Rattle.steps.specs.Knowing.{orderCountBy, hearCountBy}
-use Rattle.yard.specs.Yards.{postAt}
+use Rattle.state.specs.Yards.{postAt}
 use Rattle.yard.specs.Singles.{stopsHearing, frameAt, stopsBeacon}
-use Rattle.yard.specs.States.{Held, whole, other}
+use Rattle.state.specs.States.{Held, whole, other}
 
 -- the number that an order answers, or 0: 4, 5, 12, 13, then 21 to 24
 unfoldable pub orderRefusalIn : Held → List ℕ → ℕ → ℕ → ℕ

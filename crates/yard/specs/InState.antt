@@ -1,4 +1,4 @@
--- A fresh yard, order, hear and beacon on a state: any cells, any air, any arguments. Where what the posts know of their logs is so, the
+-- Order, hear and beacon on a state: any cells, any air, any arguments. Where what the posts know of their logs is so, the
 -- steps are those of Singles.antt (specs/Sound.antt). A state of another length is refused by 12. Assumes nothing.
 use Prim.Native.Nat.{ℕ, _+_}
 use mathlib.Core.Bool.{cond}
@@ -14,9 +14,9 @@ use Rattle.steps.specs.Knowing.{ordersBy, hearsBy}
 use Rattle.steps.specs.declared.OrderAnswer as orders
 use Rattle.steps.specs.declared.HearAnswer as hearings
 use Rattle.steps.specs.declared.BeaconAnswer as beaconing
-use Rattle.yard.specs.Yards.{Yard, postAt, freshYard, yardRefusal}
-use Rattle.yard.specs.Singles.{framesAfter, stopsOrder, stopsHearing, frameAt, stopsBeacon, withPost, withBeacons}
-use Rattle.yard.specs.States.{Held, whole, other, heldIn}
+use Rattle.state.specs.Yards.{Yard, postAt, freshYard, yardRefusal, withPost, withBeacons}
+use Rattle.yard.specs.Singles.{framesAfter, stopsOrder, stopsHearing, frameAt, stopsBeacon}
+use Rattle.state.specs.States.{Held, whole, other, heldIn}
 use Rattle.yard.specs.Worlds.{Single, order, hear, beacon}
 
 -- what a step answers, and what it leaves
@@ -88,24 +88,6 @@ beaconsIn (whole y knowns) air lane =
       air = framesWith air (y .frames) (s .frame);
     })
     (record { answer = beaconing.the-variants.Refused number; held = whole y knowns; air = air })
-
--- ---- a fresh yard: 3, "no posts"; 12, "a role at a lane without a post", or a state of another length
-
--- the number that making it is refused by, or 0, and what the state holds then
-pub record Made : Type 0 where
-  pub number : ℕ
-  pub held : Held
-
--- nothing is known of the eight logs
-abbrev pub nothingKnown : List (List ℕ)
-nothingKnown = replicate 8 (replicate 8 0)
-
-unfoldable pub freshIn : Held → ℕ → ℕ → ℕ → Made
-freshIn (other cells) present sources dests = record { number = cond {A = ℕ} (eqb (ones present) 0) 3 12; held = other cells }
-freshIn (whole y knowns) present sources dests =
-    let number = yardRefusal present sources dests in
-    cond (eqb number 0) (record { number = 0; held = whole (freshYard present sources dests) nothingKnown })
-    (record { number = number; held = whole y knowns })
 
 -- ---- a list of single steps run one after another
 

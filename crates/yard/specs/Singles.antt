@@ -15,7 +15,7 @@ use Rattle.steps.specs.Steps.{orderStep, hearStep, beaconStep}
 use Rattle.steps.specs.declared.OrderAnswer as orders
 use Rattle.steps.specs.declared.HearAnswer as hearings
 use Rattle.steps.specs.declared.BeaconAnswer as beaconing
-use Rattle.yard.specs.Yards.{Yard, postAt}
+use Rattle.state.specs.Yards.{Yard, postAt, withPost, withBeacons}
 
 -- "numbered from 0 as broadcast": a broadcast is the air's next frame. Where there is none (kind 0), or no room, nothing is written or counted.
 unfoldable pub framesAfter : List ℕ → ℕ → Frame → ℕ
@@ -128,17 +128,6 @@ postHears air p frames k =
 unfoldable pub postHearsAir : List ℕ → Post → ℕ → ℕ → List ℕ
 postHearsAir air p frames k = cond (eqb (stopsHearing air p frames k) 0) (framesWith air frames (hearStep p (frameAt air k) .frame)) air
 
--- y with another record of a lane, and so many frames on the air
-abbrev pub withPost : Yard → ℕ → Post → ℕ → Yard
-withPost y lane p frames = record {
-  present = y .present;
-  sources = y .sources;
-  posts = set (y .posts) lane p;
-  frames = frames;
-  beacons = y .beacons;
-  first = y .first;
-}
-
 -- the yard in which the post of a lane hears
 unfoldable pub yardHears : List ℕ → Yard → ℕ → ℕ → YardHeard
 yardHears air y lane k =
@@ -166,17 +155,6 @@ postBeacons air p frames beacons =
 -- the air after it
 unfoldable pub postBeaconsAir : List ℕ → Post → ℕ → ℕ → List ℕ
 postBeaconsAir air p frames beacons = cond (eqb (stopsBeacon air p beacons) 0) (framesWith air frames (beaconStep p .frame)) air
-
--- y with so many frames on the air, and so many beacons sent
-abbrev pub withBeacons : Yard → ℕ → ℕ → Yard
-withBeacons y frames beacons = record {
-  present = y .present;
-  sources = y .sources;
-  posts = y .posts;
-  frames = frames;
-  beacons = beacons;
-  first = y .first;
-}
 
 -- the yard in which the post of a lane sends a beacon
 unfoldable pub yardBeacons : List ℕ → Yard → ℕ → YardBeaconed

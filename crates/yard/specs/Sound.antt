@@ -4,11 +4,12 @@ use mathlib.Core.List.{List, []}
 use Prim.Native.Nat.{ℕ, _<_}
 use lib.ListN.{length, getD}
 use Rattle.deliver.specs.Known.{Known}
-use Rattle.yard.specs.Yards.{Yard, postAt, freshYard}
+use Rattle.state.specs.Yards.{Yard, postAt, freshYard}
 use Rattle.yard.specs.Singles.{yardOrders, yardHears, yardBeacons}
 use Rattle.yard.specs.Worlds.{World, Single, order, hear, beacon, single, singles}
-use Rattle.yard.specs.States.{Held, whole, heldIn}
-use Rattle.yard.specs.InState.{After, ordersIn, hearsIn, beaconsIn, nothingKnown, freshIn, Here, singlesIn}
+use Rattle.state.specs.States.{Held, whole, heldIn}
+use Rattle.state.specs.Fresh.{nothingKnown, freshIn}
+use Rattle.yard.specs.InState.{After, ordersIn, hearsIn, beaconsIn, Here, singlesIn}
 
 -- eight posts, and all that each of them is said to know of its log is so
 pub record Sound (y : Yard) (knowns : List (List ℕ)) : Type 0 where

@@ -2,7 +2,7 @@
 use Prim.Native.Nat.{ℕ}
 use mathlib.Core.List.{List, [], _∷_}
 use Rattle.yard.specs.Singles.{yardOrders, yardOrdersAir, yardHears, yardHearsAir, yardBeacons, yardBeaconsAir}
-use Rattle.yard.specs.Yards.{Yard}
+use Rattle.state.specs.Yards.{Yard}
 
 -- the yard and the bytes of the air
 pub record World : Type 0 where

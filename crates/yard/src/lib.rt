@@ -1,6 +1,5 @@
-// The yard in one lent state: a fresh yard, order, hear and beacon in place. Every function is total: any cells, any air, any arguments, and a
+// The yard in one lent state: order, hear and beacon in place. Every function is total: any cells, any air, any arguments, and a
 // refusal leaves state and air as they were. The contracts cite specs/InState.antt, and specs/Answers.antt for what a step answers.
-mod making;
 mod parts;
 
 use steps::BeaconAnswer;
@@ -9,47 +8,14 @@ use steps::OrderAnswer;
 ghost use mathlib.Core.Path.{_≡_};
 ghost use Rattle.steps.specs.Answers.{orderNumber, hearNumber, beaconNumber};
 ghost use Rattle.steps.specs.Values.{orderSerial, orderStamp, orderCount, hearCount};
-ghost use Rattle.yard.specs.States.{heldIn};
-ghost use Rattle.yard.specs.InState.{after, ordersIn, hearsIn, beaconsIn, Made, freshIn};
+ghost use Rattle.state.specs.States.{heldIn};
+ghost use Rattle.yard.specs.InState.{after, ordersIn, hearsIn, beaconsIn};
 ghost use Rattle.yard.specs.Answers.{orderRefusalIn, orderSerialIn, orderStampIn, orderCountIn, hearRefusalIn, hearCountIn, beaconRefusalIn};
 
-// Cells of a state: the set of posts, the set of sources, how many frames and beacons were sent, the first frames, the rows.
-pub const LENGTH: usize = 4476;
-
-pub const PRESENT: usize = 0;
-
-pub const SOURCES: usize = 1;
-
-pub const FRAMES: usize = 2;
-
-pub const BEACONS_SENT: usize = 3;
-
-pub const FIRST: u16 = 4;
-
-pub const ROWS: usize = 132;
-
-// How many lanes there are, the last word, and how many beacons are allowed.
-pub const LANES: usize = 8;
-
+// The last word, and how many beacons are allowed.
 pub const LAST_WORD: usize = 65535;
 
 pub const BEACONS: u16 = 1024;
-
-// A fresh yard from the lanes that have a post, the sources and the destinations (3, 12).
-pub fn fresh(state: &mut [u16], present: u8, sources: u8, dests: u8) -> u8
-    ensures { λ r. ⌜ _≡_ {A = Made} (record { number = r; held = heldIn (now (state .exit)) }) (freshIn (heldIn (now (state .entry))) present sources dests) ⌝ }
-{
-    let number = cells::pick(state.len() != LENGTH, 12, 0);
-    let astray = cells::role_astray(present as u16, sources as u16, dests as u16);
-    let number = cells::pick(astray, 12, number);
-    let number = cells::pick(u8::count_ones(present) == 0, 3, number);
-    if number != 0 {
-        return number;
-    }
-    making::front(state, present as u16, sources as u16);
-    making::rows(state, present as u16, sources as u16, dests as u16);
-    0
-}
 
 // Order (lane, word) in the yard (4, 5, 12, 13, then 21 to 24).
 pub fn order(state: &mut [u16], air: &mut [u8], lane: usize, word: usize) -> OrderAnswer
@@ -59,21 +25,21 @@ pub fn order(state: &mut [u16], air: &mut [u8], lane: usize, word: usize) -> Ord
     ensures stamp { λ r. ⌜ orderStamp r ≡ orderStampIn (heldIn (now (state .entry))) (now (air .entry)) lane word ⌝ }
     ensures count { λ r. ⌜ orderCount r ≡ orderCountIn (heldIn (now (state .entry))) (now (air .entry)) lane word ⌝ }
 {
-    if LANES <= lane {
+    if state::LANES <= lane {
         return OrderAnswer::Refused(4);
     }
     if LAST_WORD < word {
         return OrderAnswer::Refused(5);
     }
-    if state.len() != LENGTH {
+    if state.len() != state::LENGTH {
         return OrderAnswer::Refused(12);
     }
     if air.len() != air::LENGTH {
         return OrderAnswer::Refused(13);
     }
-    let a = ROWS + row::LENGTH * lane;
+    let a = state::ROWS + row::LENGTH * lane;
     let e = a + row::LENGTH;
-    let frames = row::get(state, FRAMES);
+    let frames = row::get(state, state::FRAMES);
     let done = steps::order(&mut state[a..e], word as u16);
     let sent = done.frame;
     let serial = sent.serial;
@@ -89,15 +55,15 @@ pub fn hear(state: &mut [u16], air: &mut [u8], lane: usize, k: usize) -> HearAns
     ensures number { λ r. ⌜ hearNumber r ≡ hearRefusalIn (heldIn (now (state .entry))) (now (air .entry)) lane k ⌝ }
     ensures count { λ r. ⌜ hearCount r ≡ hearCountIn (heldIn (now (state .entry))) (now (air .entry)) lane k ⌝ }
 {
-    if LANES <= lane {
+    if state::LANES <= lane {
         return HearAnswer::Refused(4);
     }
-    if state.len() != LENGTH {
+    if state.len() != state::LENGTH {
         return HearAnswer::Refused(12);
     }
-    let a = ROWS + row::LENGTH * lane;
+    let a = state::ROWS + row::LENGTH * lane;
     let e = a + row::LENGTH;
-    let frames = row::get(state, FRAMES);
+    let frames = row::get(state, state::FRAMES);
     let got = parts::frame_for(&state[a..e], air, frames, k);
     if got.refusal != 0 {
         return HearAnswer::Refused(got.refusal);
@@ -118,22 +84,22 @@ pub fn beacon(state: &mut [u16], air: &mut [u8], lane: usize) -> BeaconAnswer
     ensures { λ r. ⌜ after r (now (state .exit)) (now (air .exit)) ≡ beaconsIn (heldIn (now (state .entry))) (now (air .entry)) lane ⌝ }
     ensures number { λ r. ⌜ beaconNumber r ≡ beaconRefusalIn (heldIn (now (state .entry))) (now (air .entry)) lane ⌝ }
 {
-    if LANES <= lane {
+    if state::LANES <= lane {
         return BeaconAnswer::Refused(4);
     }
-    if state.len() != LENGTH {
+    if state.len() != state::LENGTH {
         return BeaconAnswer::Refused(12);
     }
-    let a = ROWS + row::LENGTH * lane;
+    let a = state::ROWS + row::LENGTH * lane;
     let e = a + row::LENGTH;
-    let sent = row::get(state, BEACONS_SENT);
+    let sent = row::get(state, state::BEACONS_SENT);
     let number = parts::beacon_refusal(&state[a..e], air, sent);
     if number != 0 {
         return BeaconAnswer::Refused(number);
     }
     let done = steps::beacon(&state[a..e]);
     let beacon_frame = done.frame;
-    row::put(state, BEACONS_SENT, sent + 1);
+    row::put(state, state::BEACONS_SENT, sent + 1);
     parts::broadcast(state, air, beacon_frame);
     let answer = done.answer;
     answer

@@ -1,7 +1,5 @@
 // What the steps of a yard are made of: the frame read from the air for a post, the broadcast put on it, what is noted of it.
 use crate::BEACONS;
-use crate::FIRST;
-use crate::FRAMES;
 use frame::Frame;
 use frame::FrameRead;
 use frame::Serial;
@@ -51,10 +49,10 @@ pub(crate) fn broadcast(state: &mut [u16], air: &mut [u8], f: Frame)
     if f.kind == 0 {
         return;
     }
-    let frames = row::get(state, FRAMES);
+    let frames = row::get(state, state::FRAMES);
     let number = air::write(air, frames as usize, f);
     if number == 0 {
-        row::put(state, FRAMES, frames + 1);
+        row::put(state, state::FRAMES, frames + 1);
     }
 }
 
@@ -62,10 +60,10 @@ pub(crate) fn broadcast(state: &mut [u16], air: &mut [u8], f: Frame)
 pub(crate) fn note_first(state: &mut [u16], lane: u8, serial: Serial, before: u16)
     ensures { λ _. ⌜ now (state .exit) ≡ cond (ltb before (getD (now (state .entry)) 2 0)) (putIn (now (state .entry)) 4 128 (orderPlace lane (serial .0)) before) (now (state .entry)) ⌝ }
 {
-    let after = row::get(state, FRAMES);
+    let after = row::get(state, state::FRAMES);
     if before < after {
         let place = row::order_place(lane, SerialCell(serial.0 as u16));
-        row::put_in(state, FIRST, 128, place, before);
+        row::put_in(state, state::FIRST, 128, place, before);
     }
 }
 

@@ -1,7 +1,7 @@
 use native.Mathlib.Omega.{arith}
 use mathlib.Core.Path.{sym, _∙_}
 use Rattle.row.specs.Rows.{postIn}
-use Rattle.yard.proofs.YardLaws.{lentRow}
+use Rattle.state.proofs.StateLaws.{lentRow}
 use Rattle.yard.proofs.PartWays.{beacon-left}
 use Rattle.yard.proofs.BeaconWays.{beacon-over-7, beacon-short, beacon-stopped, beacon-runs}
 use Rattle.yard.proofs.AnswerLaws.{beacon-tells}

@@ -1,7 +1,7 @@
 use native.Mathlib.Omega.{arith}
 use mathlib.Core.Path.{sym, _∙_}
 use Rattle.row.specs.Rows.{postIn}
-use Rattle.yard.proofs.YardLaws.{lentRow}
+use Rattle.state.proofs.StateLaws.{lentRow}
 use Rattle.yard.proofs.PartWays.{air-there, none-sent}
 use Rattle.yard.proofs.HearWays.{hear-over-7, hear-short, hear-stopped, hear-runs}
 use Rattle.yard.proofs.AnswerLaws.{hear-tells}

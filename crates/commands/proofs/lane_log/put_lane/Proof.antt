@@ -3,7 +3,7 @@ use mathlib.Core.Path.{_≡_, refl, sym}
 use Prim.Native.Nat.{_≤_}
 use lib.ListN.{length}
 use lib.Seq.{length-take-le}
-use Rattle.yard.proofs.YardLaws.{lentRow, lent-is, lent-length}
+use Rattle.state.proofs.StateLaws.{lentRow, lent-is, lent-length}
 use Rattle.commands.proofs.LogNumbers.{few-numbers}
 use Rattle.commands.proofs.LaneFiles.{lane-none, lane-made}
 use borrow.Author.Needs.{needs}

@@ -5,7 +5,7 @@ use mathlib.Core.Path.{_≡_, refl, _∙_}
 use lib.ListN.{length}
 use Rattle.text.specs.Writing.{out, wrote}
 use Rattle.meaning.specs.Texts.{postsText}
-use Rattle.yard.specs.States.{yardIn}
+use Rattle.state.specs.States.{yardIn}
 use borrow.Author.Needs.{needs}
 use Rattle.script.proofs.posts.put_posts.Statement.{statement}
 use Rattle.script.proofs.posts.put_posts.Tie as tie

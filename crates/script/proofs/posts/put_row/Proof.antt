@@ -1,7 +1,7 @@
 use Rattle.script.proofs.PrintLaws.{row-none, row-printed}
 use Rattle.row.specs.Rows.{postIn}
-use Rattle.yard.specs.States.{rowOf}
-use Rattle.yard.proofs.YardLaws.{lent-is}
+use Rattle.state.specs.States.{rowOf}
+use Rattle.state.proofs.StateLaws.{lent-is}
 use borrow.Author.Needs.{needs}
 use Rattle.script.proofs.posts.put_row.Statement.{statement}
 use Rattle.script.proofs.posts.put_row.Tie as tie

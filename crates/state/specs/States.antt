@@ -7,7 +7,7 @@ use lib.Dec.{eqb}
 use lib.ListN.{length, getD}
 use Rattle.frame.specs.Lanes.{lanes}
 use Rattle.row.specs.Rows.{part, postIn, knownIn}
-use Rattle.yard.specs.Yards.{Yard}
+use Rattle.state.specs.Yards.{Yard}
 
 -- the row of a lane
 abbrev pub rowOf : List ℕ → ℕ → List ℕ

@@ -7,7 +7,7 @@ ghost use mathlib.Core.Path.{_≡_};
 ghost use lib.ListN.{length, replicate};
 ghost use Rattle.post.specs.Record.{freshPost};
 ghost use Rattle.row.specs.Rows.{postIn, knownIn};
-ghost use Rattle.yard.specs.Making.{FreshFront, FreshBelow, SameFront};
+ghost use Rattle.state.specs.Making.{FreshFront, FreshBelow, SameFront};
 
 // The cells before the rows: the sets of posts and of sources, and 0 in all others.
 pub(crate) fn front(state: &mut [u16], present: u16, sources: u16)

@@ -1,8 +1,8 @@
 use native.Mathlib.Omega.{arith}
 use borrow.Author.Needs.{needs}
-use Rattle.yard.proofs.FreshWays.{fresh-judged, fresh-refused, fresh-made}
-use Rattle.yard.proofs.fresh.Statement.{statement}
-use Rattle.yard.proofs.fresh.Tie as tie
+use Rattle.state.proofs.FreshWays.{fresh-judged, fresh-refused, fresh-made}
+use Rattle.state.proofs.fresh.Statement.{statement}
+use Rattle.state.proofs.fresh.Tie as tie
 
 returns : tie.Need-returns
 returns c = fresh-refused (c .before .before .before .before .before .before .args .state .now) (c .before .before .before .before .before .before .args .present) (c .before .before .before .before .before .before .args .sources) (c .before .before .before .before .before .before .args .dests) _ _ _ _ (c .before .before .before .before .pick .ensures) (c .before .before .before .role-astray .ensures) (c .before .before .pick2 .ensures) (c .before .pick3 .ensures) (c .if1 .taken)

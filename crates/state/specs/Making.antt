@@ -5,7 +5,7 @@ use Prim.Native.Nat.{ℕ, _+_, _<_, _≤_}
 use lib.ListN.{getD, replicate}
 use Rattle.post.specs.Record.{freshPost}
 use Rattle.row.specs.Rows.{part, postIn, knownIn}
-use Rattle.yard.specs.States.{rowOf}
+use Rattle.state.specs.States.{rowOf}
 
 -- the cells before the rows
 pub record FreshFront (state : List ℕ) (present sources : ℕ) : Type 0 where

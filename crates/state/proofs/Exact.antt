@@ -9,12 +9,12 @@ use borrow.Author.Tests.{eqb-true}
 use lib.Dec.{eqb}
 use lib.ListN.{length, getD}
 use lib.Seq.{ext-getD}
-use Rattle.yard.specs.Yards.{Yard, postAt}
+use Rattle.state.specs.Yards.{Yard, postAt}
 use Rattle.row.specs.Rows.{postIn, knownIn}
 use Rattle.row.proofs.Laws.{part-get}
 use Rattle.row.proofs.Exact.{in-part, row-same}
-use Rattle.yard.specs.States.{rowOf, yardIn, knownsIn, whole, other, heldIn}
-use Rattle.yard.proofs.YardLaws.{at-yard, at-knowns}
+use Rattle.state.specs.States.{rowOf, yardIn, knownsIn, whole, other, heldIn}
+use Rattle.state.proofs.StateLaws.{at-yard, at-knowns}
 
 in-row : (s t : List ℕ) (lane j : ℕ) → lane < 8 → j < 543 → yardIn s ≡ yardIn t → knownsIn s ≡ knownsIn t
     → getD s (132 + 543 * lane + j) 0 ≡ getD t (132 + 543 * lane + j) 0

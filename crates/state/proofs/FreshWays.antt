@@ -17,12 +17,12 @@ use Rattle.cells.specs.Sets.{roleAstray}
 use Rattle.post.specs.Record.{freshPost}
 use Rattle.row.specs.Rows.{part, postIn, knownIn}
 use Rattle.row.proofs.Laws.{part-get}
-use Rattle.yard.specs.Yards.{noPost, freshYard, yardRefusal}
-use Rattle.yard.specs.States.{whole, rowOf, yardIn, knownsIn, heldIn}
-use Rattle.yard.specs.InState.{Made, nothingKnown, freshIn}
-use Rattle.yard.specs.Making.{FreshFront, FreshBelow, SameFront}
+use Rattle.state.specs.Yards.{noPost, freshYard, yardRefusal}
+use Rattle.state.specs.States.{whole, rowOf, yardIn, knownsIn, heldIn}
+use Rattle.state.specs.Fresh.{Made, nothingKnown, freshIn}
+use Rattle.state.specs.Making.{FreshFront, FreshBelow, SameFront}
 use Rattle.row.proofs.LentParts.{putPart}
-use Rattle.yard.proofs.YardLaws.{at-lane, eight, held-whole, this-row, other-row, front-part, lentRow, rowBack, back-is, lent-length}
+use Rattle.state.proofs.StateLaws.{at-lane, eight, held-whole, this-row, other-row, front-part, lentRow, rowBack, back-is, lent-length}
 
 -- ---- cells cleared, one after another
 

@@ -4,9 +4,9 @@ use Prim.Native.Nat.{_≤_, _-_}
 use native.Mathlib.Omega.{arith}
 use borrow.Author.Needs.{needs}
 use lib.ListN.{length, drop, replicate}
-use Rattle.yard.proofs.FreshWays.{cleared, cleared-more}
-use Rattle.yard.proofs.making.clear.Statement.{statement}
-use Rattle.yard.proofs.making.clear.Tie as tie
+use Rattle.state.proofs.FreshWays.{cleared, cleared-more}
+use Rattle.state.proofs.making.clear.Statement.{statement}
+use Rattle.state.proofs.making.clear.Tie as tie
 
 abbrev Inv-loop : tie.InvT-loop
 Inv-loop cells₀ i₀ cells i = (i ≤ length cells₀) × (length cells ≡ length cells₀) × (cells ≡ replicate i 0 ++ drop i cells₀)

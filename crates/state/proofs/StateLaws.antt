@@ -13,9 +13,8 @@ use Rattle.frame.specs.Lanes.{lanes}
 use Rattle.post.specs.declared.Post.{Post}
 use Rattle.row.specs.Rows.{part, putIn, postIn, knownIn}
 use Rattle.row.proofs.Laws.{part-get, part-put, part-apart, cell-apart}
-use Rattle.yard.specs.Yards.{Yard, noPost, postAt}
-use Rattle.yard.specs.Singles.{withPost, withBeacons}
-use Rattle.yard.specs.States.{rowOf, yardIn, knownsIn, whole, other, heldIn}
+use Rattle.state.specs.Yards.{Yard, noPost, postAt, withPost, withBeacons}
+use Rattle.state.specs.States.{rowOf, yardIn, knownsIn, whole, other, heldIn}
 use Rattle.row.proofs.LentParts.{putPart, part-back, length-back, part-before, part-after}
 
 -- ---- one thing for each of the eight lanes

@@ -3,11 +3,11 @@ use mathlib.Core.Path.{_≡_, refl}
 use Prim.Native.Nat.{_≤_, _-_}
 use native.Mathlib.Omega.{arith}
 use lib.ListN.{length}
-use Rattle.yard.specs.Making.{FreshBelow, SameFront}
-use Rattle.yard.proofs.FreshWays.{rows-none, rows-more}
-use Rattle.yard.proofs.YardLaws.{lent-length}
-use Rattle.yard.proofs.making.rows.Statement.{statement}
-use Rattle.yard.proofs.making.rows.Tie as tie
+use Rattle.state.specs.Making.{FreshBelow, SameFront}
+use Rattle.state.proofs.FreshWays.{rows-none, rows-more}
+use Rattle.state.proofs.StateLaws.{lent-length}
+use Rattle.state.proofs.making.rows.Statement.{statement}
+use Rattle.state.proofs.making.rows.Tie as tie
 
 abbrev Inv-loop : tie.InvT-loop
 Inv-loop state₀ present sources dests lane₀ state lane = (lane ≤ 8) × (length state ≡ length state₀) × (FreshBelow state present sources dests lane × SameFront state₀ state)

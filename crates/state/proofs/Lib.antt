@@ -1,0 +1,3 @@
+pub mod StateLaws
+pub mod FreshWays
+pub mod Exact

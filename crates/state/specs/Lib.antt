@@ -1,0 +1,4 @@
+pub mod Yards
+pub mod States
+pub mod Fresh
+pub mod Making

@@ -10,7 +10,8 @@ use Rattle.post.specs.Newest.{beaconFrame}
 use Rattle.steps.specs.Refusals.{notInYard}
 use Rattle.steps.specs.Steps.{beaconStep}
 use Rattle.steps.specs.declared.BeaconAnswer as beaconing
-use Rattle.state.specs.Yards.{postAt, withBeacons}
+use Rattle.state.specs.Yards.{postAt}
+use Rattle.state.specs.Changed.{withBeacons}
 use Rattle.yard.specs.Singles.{postBeacons, postBeaconsAir, yardBeacons, yardBeaconsAir}
 use Rattle.yard.specs.Worlds.{World, beacon, single}
 use Rattle.laws.proofs.Broadcasts.{Sendable}

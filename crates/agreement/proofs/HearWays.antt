@@ -15,7 +15,8 @@ use Rattle.post.specs.Record.{lastOf}
 use Rattle.steps.specs.Refusals.{notInYard, isNext, hearRefusal}
 use Rattle.steps.specs.Steps.{hearOther, hearStep}
 use Rattle.steps.specs.declared.HearAnswer as hearings
-use Rattle.state.specs.Yards.{postAt, withPost}
+use Rattle.state.specs.Yards.{postAt}
+use Rattle.state.specs.Changed.{withPost}
 use Rattle.yard.specs.Singles.{framesAfter, frameAt, postHears, postHearsAir, yardHears, yardHearsAir}
 use Rattle.yard.specs.Worlds.{World, hear, single}
 use Rattle.laws.proofs.Broadcasts.{Sendable}

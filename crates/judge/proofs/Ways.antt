@@ -1,10 +1,10 @@
 -- The ways through the judgement; what it makes known is so. Assumes nothing.
-use mathlib.Core.Path.{_≡_, refl, sym, ap, _∙_}
-use mathlib.Core.Bool.{Bool, true, false, cond, not, _&&_, _||_}
+use mathlib.Core.Path.{_≡_, refl, sym, _∙_}
+use mathlib.Core.Bool.{Bool, true, false, not, _||_}
 use mathlib.Core.List.{List}
 use Prim.Native.Nat.{ℕ, _+_, _-_, _<_, _≤_, min}
 use native.Mathlib.Omega.{arith}
-use borrow.Author.Tests.{le-leb, lt-leb, ne-eqb}
+use borrow.Author.Tests.{le-leb, lt-leb}
 use lib.Dec.{ltb, leb, eqb}
 use lib.ListN.{length, getD, take, drop, replicate}
 use Rattle.frame.specs.Lanes.{anyBelow}
@@ -13,7 +13,7 @@ use Rattle.post.specs.declared.Post.{Post}
 use Rattle.row.specs.Rows.{part, postIn, knownIn, pastIn}
 use Rattle.deliver.specs.Known.{Known, knownBelow}
 use Rattle.deliver.proofs.KnownLaws.{known-none, below-known}
-use Rattle.judge.specs.Judgement.{badOrders, badLog, badRecord, recordRefusal}
+use Rattle.judge.specs.Judgement.{badOrders, badLog, badRecord}
 use Rattle.judge.specs.Parts.{badNumbers, badOrderIn, badUsedIn, badUnusedIn}
 use Rattle.judge.specs.OnRows.{rowRefusal, knownByLog, judgedKnown}
 use Rattle.judge.proofs.Laws.{log-parts}

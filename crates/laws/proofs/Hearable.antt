@@ -9,10 +9,8 @@ use borrow.Author.Tests.{ltb-true, ltb-false, le-ltb, lt-ltb, leb-false, lt-leb,
 use Rattle.frame.specs.Layout.{entryOf}
 use Rattle.frame.specs.declared.Entry.{Entry}
 use Rattle.frame.specs.declared.Frame.{Frame}
-use Rattle.cells.specs.Tables.{orderPlace}
 use Rattle.post.specs.declared.Post.{Post}
 use Rattle.post.specs.Record.{isPost, isSource, lastOf}
-use Rattle.deliver.specs.Delivery.{stampAt}
 use Rattle.steps.specs.Refusals.{notInYard, orderRefusal, isOrder, isNext, clockPasses, ownBroadcast, hasStamp, strangeEntries, strange, lastStamp, notAbove, beyondOwn, hearRefusal}
 use Rattle.steps.proofs.Passed.{order-passed, hear-passed}
 use Rattle.laws.proofs.TestLaws.{and-parts, and-made, and-second, and-fails, or-parts, or-made, none-each, each-none, goes-on}

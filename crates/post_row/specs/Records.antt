@@ -1,5 +1,4 @@
 -- A record put into a row, and the record of a row, which keeps some cells as bytes. Assumes nothing.
-use mathlib.Core.Path.{_≡_}
 use mathlib.Core.Bool.{cond}
 use mathlib.Core.List.{List, map}
 use Prim.Native.Nat.{ℕ, _%_, _<_}

@@ -1,15 +1,14 @@
 -- Cells of a row: writing one changes exactly the field that it belongs to. Assumes nothing.
-use Prim.Native.Nat.{ℕ, _+_, _-_, _*_, _<_, _≤_}
-use mathlib.Core.Path.{_≡_, refl, sym, ap, _∙_}
+use Prim.Native.Nat.{ℕ, _+_, _-_, _<_, _≤_}
+use mathlib.Core.Path.{_≡_, refl, _∙_}
 use mathlib.Core.Bool.{Bool, true, false, cond, _||_}
 use mathlib.Core.List.{List}
 use native.Mathlib.Omega.{arith}
-use borrow.Author.Tests.{ltb-true, ltb-false, leb-true, leb-false, lt-ltb, le-ltb}
+use borrow.Author.Tests.{ltb-true, ltb-false, leb-true}
 use lib.Dec.{ltb, leb}
 use lib.ListN.{length, getD, set, take, drop, length-take, length-set, List·getD-eq-default}
 use lib.Seq.{set-out, getD-set-same, getD-set-other, drop-set-add, take-set-lt, take-set-le, drop-set-lt, getD-take, getD-drop}
 use Rattle.cells.specs.Tables.{entryPlace, withStamp, orderPlace}
-use Rattle.post.specs.declared.Post.{Post}
 use Rattle.post.specs.Record.{withClock, withOrders, withLog}
 use Rattle.post.specs.Taking.{kept, ticked}
 use Rattle.row.specs.Rows.{part, putIn, postIn, knownIn, pastIn, withTable, tickedRow}

@@ -5,7 +5,6 @@ use mathlib.Core.List.{List, _++_}
 use Prim.Native.Nat.{ℕ, _+_, _≤_}
 use native.Mathlib.Omega.{arith}
 use lib.ListN.{length, getD, take, drop}
-use Rattle.post.specs.declared.Post.{Post}
 use Rattle.row.specs.Rows.{part, postIn, knownIn, pastIn, withTable}
 use Rattle.row.proofs.Laws.{apart}
 use Rattle.row.proofs.LentParts.{putPart, part-back, part-other, cell-other, past-other}

@@ -1,10 +1,9 @@
 -- The posts printed from their rows, lane by lane. Assumes nothing.
 use mathlib.Core.Path.{_≡_, refl, sym, _∙_}
 use mathlib.Core.Bool.{Bool, true, false, cond, not}
-use mathlib.Core.List.{List, [], map}
-use Prim.Native.Nat.{ℕ, zero, suc, _+_, _<_}
+use mathlib.Core.List.{List, []}
+use Prim.Native.Nat.{ℕ, _+_, _<_}
 use native.Mathlib.Numerals.{add-one}
-use native.Mathlib.Omega.{arith}
 use lib.ListN.{getD}
 use borrow.Author.Tests.{not-false}
 use Rattle.text.specs.Writing.{Out, wrote}
@@ -12,7 +11,6 @@ use Rattle.text.proofs.Laws.{next}
 use Rattle.cells.specs.Sets.{hasLane}
 use Rattle.post.specs.declared.Post.{Post}
 use Rattle.row.specs.Rows.{postIn}
-use Rattle.state.specs.Yards.{noPost}
 use Rattle.state.specs.States.{rowOf, yardIn}
 use Rattle.state.proofs.StateLaws.{at-yard}
 use Rattle.meaning.specs.Texts.{postText, postsText}

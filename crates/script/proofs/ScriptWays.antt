@@ -15,23 +15,22 @@ use Rattle.lines.specs.declared.Line.the-variants.{Yard, Order, Hear, Beacon, R
 use Rattle.lines.specs.Lines.{lineAt, numberOf, nextOf, linesOf, judgedLines, judged}
 use Rattle.reader.proofs.LinesLaws.{line-above}
 use Rattle.state.specs.Yards.{freshYard, yardRefusal}
-use Rattle.yard.specs.Worlds.{World}
-use Rattle.state.specs.States.{Held, whole, heldIn, yardIn, knownsIn}
+use Rattle.state.specs.States.{whole, heldIn, yardIn, knownsIn}
 use Rattle.state.specs.Fresh.{Made, freshIn, nothingKnown}
 use Rattle.yard.specs.InState.{Here, hereIn}
 use Rattle.yard.specs.Sound.{Holds}
 use Rattle.state.proofs.StateLaws.{held-whole}
 use Rattle.yard.proofs.Theorem.{state-sound}
 use Rattle.meaning.specs.Texts.{badText, postsText}
-use Rattle.meaning.specs.Script.{yardOf, scriptStart, stepLines, worldAfter, refusedLines, scriptWorld, scriptText, printout, airAfter}
+use Rattle.meaning.specs.Script.{yardOf, scriptStart, stepLines, scriptWorld, scriptText, printout, airAfter}
 use Rattle.fits.proofs.Theorem.{fits}
 use Rattle.fits.proofs.LineLengths.{accepted}
 use Rattle.fits.proofs.FirstLine.{yard-accepted, yard-made, accepted-first}
 use Rattle.script.specs.declared.Sets.{Sets}
 use Rattle.script.specs.Run.{bytesPrinted, outputAfter, airLeft}
-use Rattle.script.specs.Told.{noStep, badScript, badState, lastTold}
+use Rattle.script.specs.Told.{noStep, badScript, badState}
 use Rattle.script.specs.State.{stateTold, stateHeld, stateAir}
-use Rattle.script.specs.OnState.{rest, hereAfter, refusedIn, lastIn, scriptHere, scriptKnowns, knownsOf, setsOf}
+use Rattle.script.specs.OnState.{hereAfter, refusedIn, lastIn, scriptHere, scriptKnowns, setsOf}
 use Rattle.script.proofs.LineLaws.{Done}
 use Rattle.script.proofs.Sound.{lines-hold, refused-same, last-same, held-is}
 

@@ -1,10 +1,7 @@
 -- A script's lines on a state that holds a world do what they do in that world. Assumes nothing.
-use mathlib.Core.Path.{_≡_, refl, sym, ap, _∙_}
-use mathlib.Core.Bool.{not}
-use mathlib.Core.List.{List, [], _∷_, _++_}
+use mathlib.Core.Path.{_≡_, refl, ap, _∙_}
+use mathlib.Core.List.{List, [], _∷_}
 use Prim.Native.Nat.{ℕ, _+_}
-use lib.Dec.{eqb}
-use Rattle.text.specs.Decimal.{given}
 use Rattle.lines.specs.declared.Line.{Line}
 use Rattle.yard.specs.Worlds.{World}
 use Rattle.state.specs.States.{whole}
@@ -13,7 +10,6 @@ use Rattle.yard.specs.Sound.{Holds}
 use Rattle.roll.specs.Runs.{Step, run}
 use Rattle.roll.specs.Answers.{answerNumber}
 use Rattle.roll.proofs.SoundCalls.{calls-sound}
-use Rattle.meaning.specs.Texts.{refusedText}
 use Rattle.meaning.specs.Script.{stepOf, refusalOf, worldAfter, refusedLines}
 use Rattle.script.specs.Told.{answerTold, lineTold, lastTold}
 use Rattle.script.specs.OnState.{runIn, refusalIn, toldIn, hereAfter, refusedIn, lastIn, knownsOf}

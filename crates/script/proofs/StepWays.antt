@@ -1,6 +1,6 @@
 -- A line's step on a state: what each form's function leaves is what the line asks for. Assumes nothing.
-use mathlib.Core.Path.{_≡_, refl, ap, sym, _∙_}
-use mathlib.Core.List.{List, [], _∷_}
+use mathlib.Core.Path.{_≡_, refl, ap}
+use mathlib.Core.List.{List}
 use Prim.Native.Nat.{ℕ, _%_}
 use Rattle.steps.specs.Answers.{orderNumber, hearNumber, beaconNumber}
 use Rattle.steps.specs.declared.OrderAnswer as orders
@@ -9,12 +9,10 @@ use Rattle.steps.specs.declared.BeaconAnswer as beaconing
 use Rattle.told.specs.Told.{orderTold, hearTold, beaconTold}
 use Rattle.lines.specs.declared.Line.{Line}
 use Rattle.lines.specs.declared.Line.the-variants.{Yard, Order, Hear, Beacon, Roll, Refused}
-use Rattle.yard.specs.Worlds.{order, hear, beacon}
 use Rattle.state.specs.States.{heldIn}
-use Rattle.yard.specs.InState.{After, after, ordersIn, hearsIn, beaconsIn, Here, hereIn, singleIn}
+use Rattle.yard.specs.InState.{After, after, ordersIn, hearsIn, beaconsIn, hereIn, singleIn}
 use Rattle.roll.specs.declared.RollAnswer as calling
 use Rattle.roll.specs.Answers.{rollNumber}
-use Rattle.roll.specs.Runs.{Step, one, roll}
 use Rattle.roll.specs.Calls.{callsIn, answersIn, stepIn}
 use Rattle.meaning.specs.Script.{stepOf}
 use Rattle.script.specs.Told.{rollTold, noStep}

@@ -7,7 +7,7 @@ use native.Mathlib.Omega.{arith}
 use lib.Dec.{eqb}
 use lib.ListN.{length}
 use borrow.Author.Tests.{ne-eqb, eqb-true, eqb-false}
-use Rattle.frame.specs.Layout.{bytesOf, noFrame}
+use Rattle.frame.specs.Layout.{noFrame}
 use Rattle.frame.proofs.Laws.{not-32, is-32}
 use Rattle.air.specs.Air.{framesWith}
 use Rattle.air.proofs.Buffers.{buffer-filled, none-kept}

@@ -1,7 +1,7 @@
 -- The row that a record is put into: judged there, it knows what its log makes known, and after a step it has the record that
 -- the step leaves. Assumes nothing.
-use mathlib.Core.Path.{_≡_, refl, sym, ap, _∙_}
-use mathlib.Core.Bool.{Bool, true, false, cond}
+use mathlib.Core.Path.{_≡_, sym, ap, _∙_}
+use mathlib.Core.Bool.{false}
 use mathlib.Core.List.{List}
 use Prim.Native.Nat.{ℕ, _<_, _≤_}
 use native.Mathlib.Omega.{arith}
@@ -12,7 +12,6 @@ use mir.Syntax.{w16}
 use mir.Val.{Val}
 use denote.Shadow.{shadow}
 use denote.Struct.Declared.{row}
-use lib.Dec.{leb, eqb}
 use lib.ListN.{length, getD, replicate, length-map, List·getD-eq-default}
 use Rattle.frame.specs.declared.Frame.{Frame}
 use Rattle.frame.specs.Refusals.{frameRefusal}
@@ -26,7 +25,7 @@ use Rattle.deliver.specs.Known.{Known}
 use Rattle.judge.specs.Judgement.{badRecord, recordRefusal}
 use Rattle.judge.specs.OnRows.{rowRefusal, knownByLog, judgedKnown}
 use Rattle.judge.proofs.Ways.{log-known}
-use Rattle.steps.specs.Steps.{orderStep, hearStep, beaconStep}
+use Rattle.steps.specs.Steps.{orderStep, hearStep}
 use Rattle.steps.specs.Steps as after
 use Rattle.steps.specs.Knowing.{Stepped, stepped, ordersBy, hearsBy}
 use Rattle.steps.specs.declared.OrderAnswer.{OrderAnswer}
@@ -35,7 +34,6 @@ use Rattle.steps.proofs.KnownSteps.{orders-known, hears-known}
 use Rattle.laws.specs.Records.{Shaped, Valid}
 use Rattle.laws.proofs.Valid.{judged-valid}
 use Rattle.laws.proofs.StepLaws.{order-judged, hear-judged}
-use Rattle.single.proofs.Judged.{record-good}
 
 -- ---- what the type `Post` says of a record
 

@@ -13,7 +13,8 @@ use Rattle.frame.specs.Lanes.{lanes}
 use Rattle.post.specs.declared.Post.{Post}
 use Rattle.row.specs.Rows.{part, putIn, postIn, knownIn}
 use Rattle.row.proofs.Laws.{part-get, part-put, part-apart, cell-apart}
-use Rattle.state.specs.Yards.{Yard, noPost, postAt, withPost, withBeacons}
+use Rattle.state.specs.Yards.{Yard, noPost, postAt}
+use Rattle.state.specs.Changed.{withPost, withBeacons}
 use Rattle.state.specs.States.{rowOf, yardIn, knownsIn, whole, other, heldIn}
 use Rattle.row.proofs.LentParts.{putPart, part-back, length-back, part-before, part-after}
 

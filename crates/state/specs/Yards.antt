@@ -4,7 +4,7 @@ use mathlib.Core.Bool.{cond}
 use mathlib.Core.List.{List, [], map}
 use lib.Count.{ones}
 use lib.Dec.{eqb}
-use lib.ListN.{getD, set, replicate}
+use lib.ListN.{getD, replicate}
 use Rattle.frame.specs.Lanes.{lanes}
 use Rattle.cells.specs.Sets.{roleAstray}
 use Rattle.post.specs.declared.Post.{Post}
@@ -40,28 +40,6 @@ noPost = record {
 -- the record of a lane; a lane without a post has one too, which is not in the yard (21)
 abbrev pub postAt : Yard → ℕ → Post
 postAt y lane = getD (y .posts) lane noPost
-
--- y with another record of a lane, and so many frames on the air
-abbrev pub withPost : Yard → ℕ → Post → ℕ → Yard
-withPost y lane p frames = record {
-  present = y .present;
-  sources = y .sources;
-  posts = set (y .posts) lane p;
-  frames = frames;
-  beacons = y .beacons;
-  first = y .first;
-}
-
--- y with so many frames on the air, and so many beacons sent
-abbrev pub withBeacons : Yard → ℕ → ℕ → Yard
-withBeacons y frames beacons = record {
-  present = y .present;
-  sources = y .sources;
-  posts = y .posts;
-  frames = frames;
-  beacons = beacons;
-  first = y .first;
-}
 
 -- "A fresh yard is any yard before its first step: each post fresh, no frame on the air yet, no beacon sent."
 unfoldable pub freshYard : ℕ → ℕ → ℕ → Yard

@@ -11,7 +11,7 @@ use Rattle.post.specs.Record.{lastOf}
 use Rattle.post.specs.Taking.{kept, ticked, ownTaken}
 use Rattle.deliver.specs.Known.{deliveredFrom}
 use Rattle.steps.specs.Refusals.{isOrder, isNext, orderRefusal, hearRefusal, beaconRefusal}
-use Rattle.steps.specs.Steps.{otherAnswer, beaconStep}
+use Rattle.steps.specs.Steps.{beaconStep}
 use Rattle.steps.specs.Answers.{orderNumber, hearNumber, beaconNumber}
 use Rattle.steps.specs.Values.{orderSerial, orderStamp, orderCount, orderStepSerial, orderStepStamp, hearCount}
 use Rattle.steps.specs.Knowing.{ordersBy, orderCountBy, hearTook, passedAnswer, hearsBy, hearCountBy}

@@ -168,6 +168,10 @@ module _ (p : Post) (f : Frame) where
   pub inside : (lane posts : ℕ) (b : Bool) → lane ≡ p .lane → posts ≡ p .posts → b ≡ hasLane posts lane → not b ≡ false → Inside
   inside lane posts b el ep eb t = rw (el, ep) at (rw eb at t)
 
+  -- so there is an entry of its lane
+  pub own-small : (lane posts : ℕ) (b : Bool) → lane ≡ p .lane → b ≡ hasLane posts lane → not b ≡ false → p .lane < 8
+  own-small lane posts b el eb t = rw el at (has-lane posts lane (sym eb ∙ not-false b t))
+
   pub is-24 : (b : Bool) → Inside → b ≡ clockPasses p f → b ≡ true → 24 ≡ hearRefusal p f
   unfolding hearRefusal
   is-24 b i e t = let y : clockPasses p f ≡ true = sym e ∙ t in rw (i, y)

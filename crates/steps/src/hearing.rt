@@ -13,7 +13,7 @@ ghost use lib.Dec.{ltb, leb};
 ghost use lib.ListN.{getD};
 ghost use Rattle.cells.specs.Sets.{hasLane};
 ghost use Rattle.cells.specs.Tables.{orderPlace};
-ghost use Rattle.frame.specs.Layout.{noEntry, entryOf};
+ghost use Rattle.frame.specs.Layout.{entryOf};
 ghost use Rattle.post.specs.Record.{isSource, lastOf};
 ghost use Rattle.post.specs.Newest.{raised, raisedBelow, orderFrame};
 ghost use Rattle.row.specs.Rows.{postIn, knownIn, pastIn, withTable};
@@ -120,6 +120,7 @@ fn not_above(row: &[u16], f: Frame, last: SerialCell, next: bool) -> bool
 
 // 30
 fn beyond_own(row: &[u16], f: Frame) -> bool
+    requires { ⌜ postIn (now row) .lane < 8 ⌝ }
     ensures { λ r. ⌜ r ≡ beyondOwn (postIn (now (row .entry))) f ⌝ }
 {
     let numbers = row::read_numbers(row);
@@ -134,24 +135,11 @@ fn beyond_own(row: &[u16], f: Frame) -> bool
 }
 
 fn own_entry(f: Frame, lane: u16) -> Entry
+    requires { ⌜ lane < 8 ⌝ }
     ensures { λ r. ⌜ r ≡ entryOf f lane ⌝ }
 {
-    if lane < row::LANES {
-        let i = lane as usize;
-        f.entries[i]
-    } else {
-        none()
-    }
-}
-
-// No entry.
-fn none() -> Entry
-    ensures { λ r. ⌜ r ≡ noEntry ⌝ }
-{
-    Entry {
-        serial: Serial(0),
-        stamp: Stamp(0),
-    }
+    let i = lane as usize;
+    f.entries[i]
 }
 
 // Part 1: each entry raises the table.

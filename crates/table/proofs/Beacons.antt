@@ -12,7 +12,8 @@ use Rattle.air.proofs.Stretches.{length-stays}
 use Rattle.post.specs.Newest.{beaconFrame}
 use Rattle.post.specs.Record.{freshPost}
 use Rattle.steps.specs.Steps.{beaconStep}
-use Rattle.state.specs.Yards.{freshYard, withBeacons}
+use Rattle.state.specs.Yards.{freshYard}
+use Rattle.state.specs.Changed.{withBeacons}
 use Rattle.yard.specs.Singles.{framesAfter, postBeacons, postBeaconsAir, yardBeacons, yardBeaconsAir}
 use Rattle.yard.specs.Worlds.{World, beacon, single}
 use Rattle.roll.specs.RollCall.{laneHears, lanesHears, postsHear, beaconsSent, beaconsHeard, postsHearBeacons, rollSteps, rollRefusal, rollCall, rollCallAir}

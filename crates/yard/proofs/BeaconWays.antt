@@ -11,7 +11,8 @@ use Rattle.row.proofs.Laws.{cell-apart}
 use Rattle.steps.specs.Steps.{beaconStep}
 use Rattle.steps.specs.declared.BeaconAnswer as beaconing
 use Rattle.steps.specs.declared.Beaconed.{Beaconed}
-use Rattle.state.specs.Yards.{Yard, postAt, withBeacons}
+use Rattle.state.specs.Yards.{Yard, postAt}
+use Rattle.state.specs.Changed.{withBeacons}
 use Rattle.yard.specs.Singles.{framesAfter, stopsBeacon}
 use Rattle.state.specs.States.{Held, whole, other, rowOf, yardIn, knownsIn, heldIn}
 use Rattle.yard.specs.InState.{After, after, beaconsIn}

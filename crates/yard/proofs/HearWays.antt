@@ -10,7 +10,8 @@ use Rattle.air.specs.Air.{framesWith}
 use Rattle.row.specs.Rows.{postIn, knownIn}
 use Rattle.steps.specs.Knowing.{Stepped, stepped, hearsBy}
 use Rattle.steps.specs.declared.HearAnswer as hearings
-use Rattle.state.specs.Yards.{Yard, postAt, withPost}
+use Rattle.state.specs.Yards.{Yard, postAt}
+use Rattle.state.specs.Changed.{withPost}
 use Rattle.yard.specs.Singles.{framesAfter, stopsHearing, frameAt}
 use Rattle.state.specs.States.{Held, whole, other, rowOf, yardIn, knownsIn, heldIn}
 use Rattle.yard.specs.InState.{After, after, hearsIn}

@@ -19,7 +19,8 @@ use Rattle.steps.specs.Refusals.{orderRefusal}
 use Rattle.steps.specs.Steps.{orderSent, orderStep}
 use Rattle.steps.specs.Knowing.{Stepped, stepped, ordersBy}
 use Rattle.steps.specs.declared.OrderAnswer as orders
-use Rattle.state.specs.Yards.{Yard, postAt, withPost}
+use Rattle.state.specs.Yards.{Yard, postAt}
+use Rattle.state.specs.Changed.{withPost}
 use Rattle.yard.specs.Singles.{framesAfter}
 use Rattle.state.specs.States.{Held, whole, other, rowOf, yardIn, knownsIn, heldIn}
 use Rattle.yard.specs.InState.{After, after, withOrder, ordersIn}

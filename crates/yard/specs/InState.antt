@@ -3,9 +3,8 @@
 use Prim.Native.Nat.{ℕ, _+_}
 use mathlib.Core.Bool.{cond}
 use mathlib.Core.List.{List, [], _∷_}
-use lib.Count.{ones}
 use lib.Dec.{ltb, eqb}
-use lib.ListN.{getD, set, replicate}
+use lib.ListN.{getD, set}
 use Rattle.air.specs.Air.{framesWith}
 use Rattle.cells.specs.Tables.{orderPlace}
 use Rattle.post.specs.declared.Post.{Post}
@@ -14,7 +13,8 @@ use Rattle.steps.specs.Knowing.{ordersBy, hearsBy}
 use Rattle.steps.specs.declared.OrderAnswer as orders
 use Rattle.steps.specs.declared.HearAnswer as hearings
 use Rattle.steps.specs.declared.BeaconAnswer as beaconing
-use Rattle.state.specs.Yards.{Yard, postAt, freshYard, yardRefusal, withPost, withBeacons}
+use Rattle.state.specs.Yards.{Yard, postAt}
+use Rattle.state.specs.Changed.{withPost, withBeacons}
 use Rattle.yard.specs.Singles.{framesAfter, stopsOrder, stopsHearing, frameAt, stopsBeacon}
 use Rattle.state.specs.States.{Held, whole, other, heldIn}
 use Rattle.yard.specs.Worlds.{Single, order, hear, beacon}

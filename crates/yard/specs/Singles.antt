@@ -15,7 +15,8 @@ use Rattle.steps.specs.Steps.{orderStep, hearStep, beaconStep}
 use Rattle.steps.specs.declared.OrderAnswer as orders
 use Rattle.steps.specs.declared.HearAnswer as hearings
 use Rattle.steps.specs.declared.BeaconAnswer as beaconing
-use Rattle.state.specs.Yards.{Yard, postAt, withPost, withBeacons}
+use Rattle.state.specs.Yards.{Yard, postAt}
+use Rattle.state.specs.Changed.{withPost, withBeacons}
 
 -- "numbered from 0 as broadcast": a broadcast is the air's next frame. Where there is none (kind 0), or no room, nothing is written or counted.
 unfoldable pub framesAfter : List ℕ → ℕ → Frame → ℕ

@@ -1,7 +1,5 @@
 use Rattle.script.proofs.ScriptWays.{other-length, good-printed, bad-printed}
 use native.Mathlib.Omega.{arith}
-use lib.ListN.{length-replicate}
-use mathlib.Core.Path.{refl}
 use borrow.Author.Needs.{needs}
 use Rattle.script.proofs.drift_run_script.Statement.{statement}
 use Rattle.script.proofs.drift_run_script.Tie as tie

@@ -1,8 +1,5 @@
 use Rattle.script.proofs.ScriptWays.{good-posts}
-use native.Mathlib.Omega.{arith}
-use Prim.Native.Nat.{ℕ}
-use mathlib.Core.Path.{_≡_, _∙_}
-use lib.ListN.{length}
+use mathlib.Core.Path.{_∙_}
 use borrow.Author.Needs.{needs}
 use Rattle.script.proofs.print_good.Statement.{statement}
 use Rattle.script.proofs.print_good.Tie as tie

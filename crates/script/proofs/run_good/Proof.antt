@@ -1,6 +1,4 @@
 use Rattle.script.proofs.ScriptWays.{second-line, first-here, good-ran}
-use native.Mathlib.Omega.{arith}
-use mathlib.Core.Path.{refl}
 use borrow.Author.Needs.{needs}
 use Rattle.script.proofs.run_good.Statement.{statement}
 use Rattle.script.proofs.run_good.Tie as tie

@@ -3,8 +3,8 @@ use Rattle.frame.specs.Lanes.{anyBelow}
 use Rattle.deliver.specs.Loops.{readyAt}
 use Rattle.deliver.proofs.Waiting.{ready-first, ready-more, ready-rest}
 use Rattle.row.specs.Rows.{postIn, knownIn}
-use Prim.Native.Nat.{_≤_, _-_, _*_, min}
-use mathlib.Core.Path.{_≡_, refl}
+use Prim.Native.Nat.{_≤_, _-_, min}
+use mathlib.Core.Path.{_≡_}
 use native.Mathlib.Omega.{arith}
 use lib.ListN.{getD}
 use Rattle.deliver.proofs.ready.ready_in.Statement.{statement}

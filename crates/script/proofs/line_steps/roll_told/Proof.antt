@@ -1,4 +1,3 @@
-use native.Mathlib.Omega.{arith}
 use borrow.Author.Needs.{needs}
 use Rattle.script.proofs.line_steps.roll_told.Statement.{statement}
 use Rattle.script.proofs.line_steps.roll_told.Tie as tie

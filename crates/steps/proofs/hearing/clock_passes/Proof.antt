@@ -1,7 +1,6 @@
 use Rattle.row.specs.declared.Numbers.{Numbers}
 use mathlib.Core.Path.{ap}
 use Rattle.steps.proofs.HearWays.{no-next, a-next}
-use borrow.Author.Needs.{needs}
 use Rattle.steps.proofs.hearing.clock_passes.Statement.{statement}
 use Rattle.steps.proofs.hearing.clock_passes.Tie as tie
 

@@ -1,5 +1,4 @@
 use Rattle.steps.proofs.HearWays.{no-next, a-next}
-use borrow.Author.Needs.{needs}
 use Rattle.steps.proofs.hearing.not_above.Statement.{statement}
 use Rattle.steps.proofs.hearing.not_above.Tie as tie
 

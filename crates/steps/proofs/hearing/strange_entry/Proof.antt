@@ -1,4 +1,3 @@
-use borrow.Author.Needs.{needs}
 use Rattle.steps.proofs.hearing.strange_entry.Statement.{statement}
 use Rattle.steps.proofs.hearing.strange_entry.Tie as tie
 

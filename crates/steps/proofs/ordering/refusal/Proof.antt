@@ -1,8 +1,6 @@
 use Rattle.row.specs.declared.Numbers.{Numbers}
 use mathlib.Core.Path.{ap}
-use Rattle.row.specs.Rows.{postIn}
 use Rattle.steps.specs.Refusals.{orderRefusal}
-use borrow.Author.Needs.{needs}
 use Rattle.steps.proofs.ordering.refusal.Statement.{statement}
 use Rattle.steps.proofs.ordering.refusal.Tie as tie
 

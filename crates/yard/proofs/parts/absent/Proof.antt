@@ -1,6 +1,5 @@
 use Rattle.row.specs.declared.Numbers.{Numbers}
 use mathlib.Core.Path.{ap}
-use borrow.Author.Needs.{needs}
 use Rattle.yard.proofs.parts.absent.Statement.{statement}
 use Rattle.yard.proofs.parts.absent.Tie as tie
 

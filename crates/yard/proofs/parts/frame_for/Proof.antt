@@ -1,6 +1,5 @@
 use Rattle.row.specs.Rows.{postIn}
 use Rattle.yard.proofs.PartWays.{found-there, found-nothing}
-use borrow.Author.Needs.{needs}
 use Rattle.yard.proofs.parts.frame_for.Statement.{statement}
 use Rattle.yard.proofs.parts.frame_for.Tie as tie
 

@@ -47,7 +47,7 @@ fn bad_place(place: u16, last: &[u16], marks: &mut [u8], known: &mut [u16]) -> b
         return true;
     }
     let i = place as usize;
-    let lane = i / 16;
+    let lane = (place / 16) as usize;
     let order = place % 16;
     let again = !(marks[i] == 0);
     marks[i] = 1;

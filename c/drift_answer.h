@@ -83,8 +83,8 @@ enum drift_refusal {
     DRIFT_NOT_ON_AIR = 25,
     /* The post's own broadcast. */
     DRIFT_OWN_BROADCAST = 26,
-    /* Beacons spent: for a beacon 1,024 sent, for a roll call fewer left than
-     * there are sources. */
+    /* Beacons spent: for a beacon that post has sent 128, for a roll call some
+     * source has. */
     DRIFT_BEACONS_SPENT = 27,
     /* Sender not in the yard, or the order or an entry belongs to a lane that
      * is no source. */

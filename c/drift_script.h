@@ -57,10 +57,10 @@ size_t drift_run_script(const uint8_t *script, size_t script_length,
  *   0             the set of posts
  *   1             the set of sources
  *   2             how many frames are on the air
- *   3             how many beacons were sent
- *   4 .. 131      for each order the number of its first frame; 0 where there
+ *   3 .. 10       for each lane how many beacons its post has sent, at most 128
+ *   11 .. 138     for each order the number of its first frame; 0 where there
  *                 is no order
- *   132 .. 4475   a row of DRIFT_ROW_CELLS cells for each of the lanes 0 to 7
+ *   139 .. 4482   a row of DRIFT_ROW_CELLS cells for each of the lanes 0 to 7
  *
  *   cell          of a lane's row
  *   0             the lane
@@ -86,19 +86,19 @@ size_t drift_run_script(const uint8_t *script, size_t script_length,
  *
  * So post 2's clock is state[DRIFT_STATE_ROW(2) + DRIFT_ROW_CLOCK].
  */
-#define DRIFT_STATE_CELLS 4476
+#define DRIFT_STATE_CELLS 4483
 #define DRIFT_ROW_CELLS 543
 
-/* Single cells of a state; the first frame of the order at a place; where the
- * row of a lane begins. */
+/* Single cells of a state; the beacons of a lane's post; the first frame of the
+ * order at a place; where the row of a lane begins. */
 enum drift_state_cell {
     DRIFT_STATE_POSTS = 0,
     DRIFT_STATE_SOURCES = 1,
-    DRIFT_STATE_FRAMES = 2,
-    DRIFT_STATE_BEACONS = 3
+    DRIFT_STATE_FRAMES = 2
 };
-#define DRIFT_STATE_FIRST_FRAME(place) (4 + (place))
-#define DRIFT_STATE_ROW(lane) (132 + DRIFT_ROW_CELLS * (lane))
+#define DRIFT_STATE_BEACONS(lane) (3 + (lane))
+#define DRIFT_STATE_FIRST_FRAME(place) (11 + (place))
+#define DRIFT_STATE_ROW(lane) (139 + DRIFT_ROW_CELLS * (lane))
 
 /* Single cells of a row, and those that it has for each lane, for each place of
  * the table, for each place of an order and for each order of the log, from 0. */

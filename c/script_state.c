@@ -1,8 +1,9 @@
 /*
  * A host in C that looks behind a printout: runs the script of a file, prints
- * each post from the state as document 01 prints it, and what the last line
- * answered. Tries the library's answers to states of other lengths too, and
- * exits with 1 if one differs. To build and run it in the repository root:
+ * each post from the state as document 01 prints it, how many beacons each
+ * lane's post has sent, and what the last line answered. Tries the library's
+ * answers to states of other lengths too, and exits with 1 if one differs. To
+ * build and run it in the repository root:
  *
  *   rt staticlib script
  *   gcc -std=c11 -Wall -Wextra -Wpedantic -Wconversion -Werror \
@@ -49,6 +50,16 @@ static void print_post(const uint16_t *row)
                DRIFT_POST_PLACE_LANE(place), row[DRIFT_ROW_WORD(place)]);
     }
     printf("))\n");
+}
+
+/* The beacons of the posts of lanes 0 to 7; 0 where there is no post. */
+static void print_beacons(void)
+{
+    printf("beacons sent:");
+    for (int lane = 0; lane < DRIFT_LANES; lane++) {
+        printf(" %u", state[DRIFT_STATE_BEACONS(lane)]);
+    }
+    printf("\n");
 }
 
 /* What a hearing answered. */
@@ -112,6 +123,7 @@ static int print_state(size_t length)
             print_post(&state[DRIFT_STATE_ROW(lane)]);
         }
     }
+    print_beacons();
     if (!is_rest(state, DRIFT_STATE_CELLS * sizeof state[0], sizeof state)) {
         return differs("a cell behind the state was written");
     }

@@ -29,7 +29,7 @@ static const struct part state_parts[] = {
     {"posts", DRIFT_STATE_POSTS, 1},
     {"sources", DRIFT_STATE_SOURCES, 1},
     {"frames", DRIFT_STATE_FRAMES, 1},
-    {"beacons", DRIFT_STATE_BEACONS, 1},
+    CELLS("beacons", DRIFT_STATE_BEACONS, DRIFT_LANES),
     CELLS("first", DRIFT_STATE_FIRST_FRAME, DRIFT_POST_ORDERS),
     CELLS("rows", DRIFT_STATE_ROW, DRIFT_LANES),
 };

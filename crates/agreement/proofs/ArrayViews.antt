@@ -21,11 +21,11 @@ use Rattle.model.proofs.Functions.{upd, upd2, upd-case, upd2-case}
 use Rattle.model.proofs.Model.{raise}
 use Rattle.agreement.proofs.Views.{placesView}
 
--- ---- the last serials taken
+-- ---- a number for each lane: last serials taken, beacons sent
 
--- the last serial of one lane is changed
-pub last-set : (l : List ℕ) (i v : ℕ) → length l ≡ 8 → i < 8 → (λ (j : ℕ). getD (set l i v) j 0) ≡ upd (λ (j : ℕ). getD l j 0) i v
-last-set l i v e h =
+-- that of one lane is changed
+pub lanes-set : (l : List ℕ) (i v : ℕ) → length l ≡ 8 → i < 8 → (λ (j : ℕ). getD (set l i v) j 0) ≡ upd (λ (j : ℕ). getD l j 0) i v
+lanes-set l i v e h =
     fun-ext (λ j. upd-case (λ (x : ℕ). getD (set l i v) j 0 ≡ x) (λ (j : ℕ). getD l j 0) i v j
     (λ q. rw q (getD-set-same l i v 0 (omega arith)))
     (λ q. getD-set-other l i j v 0 q))
@@ -145,9 +145,9 @@ table-zero t h = fun-ext (λ i. fun-ext (λ n. h (entryPlace i n)))
 pub places-zero : (l : List ℕ) → ((j : ℕ) → getD l j 0 ≡ 0) → placesView l ≡ (λ (i n : ℕ). 0)
 places-zero l h = fun-ext (λ i. fun-ext (λ n. h (orderPlace i n)))
 
--- zeros of any length: as last serials
-pub last-zeros : (n : ℕ) → _≡_ {A = ℕ → ℕ} (λ j. getD (replicate n 0) j 0) (λ j. 0)
-last-zeros n = fun-ext (λ j. zeros n j)
+-- zeros of any length: as a number for each lane
+pub lanes-zeros : (n : ℕ) → _≡_ {A = ℕ → ℕ} (λ j. getD (replicate n 0) j 0) (λ j. 0)
+lanes-zeros n = fun-ext (λ j. zeros n j)
 
 -- as a table
 pub table-zeros : (n : ℕ) → stampUnder (replicate n 0) ≡ (λ (i m : ℕ). 0)

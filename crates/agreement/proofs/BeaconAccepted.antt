@@ -1,18 +1,20 @@
 -- Where it is not refused, a beacon in a yard does what the model's beacon does. Assumes nothing.
 use mathlib.Core.Path.{_≡_, ap, _∙_}
 use mathlib.Core.Bool.{true, false}
-use Prim.Native.Nat.{ℕ, _<_}
+use Prim.Native.Nat.{ℕ, _+_, _<_}
 use native.Mathlib.Numerals.{add-one}
+use lib.ListN.{length-set}
 use Rattle.air.proofs.Stretches.{length-stays}
 use Rattle.post.specs.Newest.{beaconFrame}
 use Rattle.steps.specs.Refusals.{notInYard}
-use Rattle.state.specs.Yards.{postAt}
+use Rattle.state.specs.Yards.{postAt, beaconsAt}
 use Rattle.yard.specs.Worlds.{World, beacon, single}
 use Rattle.laws.proofs.NewestLaws.{beacon-accepted, beacon-fits}
 use Rattle.laws.proofs.Broadcasts.{Sendable}
 use Rattle.model.proofs.Functions.{upd}
 use Rattle.model.proofs.Model as model
 use Rattle.agreement.proofs.Views.{rolesOf, placesView, postView, yardView}
+use Rattle.agreement.proofs.ArrayViews.{lanes-set}
 use Rattle.agreement.proofs.FrameViews.{view-beacon-frame}
 use Rattle.agreement.proofs.AirViews.{air-spoken}
 use Rattle.agreement.proofs.Sound.{on-air-more, Sound}
@@ -24,7 +26,7 @@ module _ (present sources dests : ℕ) where
 
   module _ (w : World) (s : Sound present sources dests w) (lane : ℕ) (here : lane < 8)
       (inside : notInYard (postAt (w .yard) lane .posts) (postAt (w .yard) lane .lane) ≡ false)
-      (left : w .yard .beacons < 1024) (room : w .yard .frames < 2048) where
+      (left : beaconsAt (w .yard) lane < 128) (room : w .yard .frames < 2048) where
     can-beacon : Sendable (beaconFrame (postAt (w .yard) lane))
     can-beacon =
         let i = s .post lane here in
@@ -41,7 +43,8 @@ module _ (present sources dests : ℕ) where
           (view-beacon-frame (postAt (w .yard) lane) (s .post lane here .shaped)
           ∙ ap (λ (i : ℕ). model.entriesFrame true i model.noOrder (postView (postAt (w .yard) lane))) (s .post lane here .itsLane))) t;
       frames = add-one (w .yard .frames) t;
-      beacons = add-one (w .yard .beacons) t;
+      beacons = (lanes-set (w .yard .beacons) lane (beaconsAt (w .yard) lane + 1) (s .counts) here
+          ∙ ap (upd (beaconsAt (w .yard)) lane) (add-one (beaconsAt (w .yard) lane))) t;
       first = placesView (w .yard .first);
     }
 
@@ -50,6 +53,7 @@ module _ (present sources dests : ℕ) where
       itsPresent = s .itsPresent;
       itsSources = s .itsSources;
       eight = s .eight;
+      counts = length-set (w .yard .beacons) lane (beaconsAt (w .yard) lane + 1) ∙ s .counts;
       places = s .places;
       whole = length-stays (w .air) (w .yard .frames) (beaconFrame (postAt (w .yard) lane)) ∙ s .whole;
       post = s .post;

@@ -7,7 +7,7 @@ use native.Mathlib.Omega.{arith}
 use lib.ListN.{length}
 use borrow.Author.Tests.{lt-ltb, le-ltb, le-leb, lt-leb, eq-eqb}
 use Rattle.cells.specs.Sets.{hasLane}
-use Rattle.state.specs.Yards.{postAt}
+use Rattle.state.specs.Yards.{postAt, beaconsAt}
 use Rattle.yard.specs.Worlds.{World, beacon}
 use Rattle.roll.specs.Runs.{answer, sentBy}
 use Rattle.laws.proofs.TestLaws.{below-or-not, true-or-false}
@@ -34,23 +34,23 @@ module _ (present sources dests : ℕ) where
   unfolding beaconYardRefusal
   beacon-yard-21 w s lane l e = rw (le-ltb 7 lane (omega arith), eq-eqb (length (w .air)) 65536 (s .whole), s .itsPresent, e)
 
-  beacon-yard-27 : (w : World) → Sound present sources dests w → (lane : ℕ) → lane < 8 → hasLane present lane ≡ true → 1024 ≤ w .yard .beacons
+  beacon-yard-27 : (w : World) → Sound present sources dests w → (lane : ℕ) → lane < 8 → hasLane present lane ≡ true → 128 ≤ beaconsAt (w .yard) lane
       → beaconYardRefusal w lane ≡ 27
   unfolding beaconYardRefusal
   beacon-yard-27 w s lane l e h =
-      rw (le-ltb 7 lane (omega arith), eq-eqb (length (w .air)) 65536 (s .whole), s .itsPresent, e, le-leb 1024 (w .yard .beacons) h)
+      rw (le-ltb 7 lane (omega arith), eq-eqb (length (w .air)) 65536 (s .whole), s .itsPresent, e, le-leb 128 (beaconsAt (w .yard) lane) h)
 
-  beacon-yard-0 : (w : World) → Sound present sources dests w → (lane : ℕ) → lane < 8 → hasLane present lane ≡ true → w .yard .beacons < 1024
+  beacon-yard-0 : (w : World) → Sound present sources dests w → (lane : ℕ) → lane < 8 → hasLane present lane ≡ true → beaconsAt (w .yard) lane < 128
       → beaconYardRefusal w lane ≡ 0
   unfolding beaconYardRefusal
   beacon-yard-0 w s lane l e h =
-      rw (le-ltb 7 lane (omega arith), eq-eqb (length (w .air)) 65536 (s .whole), s .itsPresent, e, lt-leb 1024 (w .yard .beacons) h)
+      rw (le-ltb 7 lane (omega arith), eq-eqb (length (w .air)) 65536 (s .whole), s .itsPresent, e, lt-leb 128 (beaconsAt (w .yard) lane) h)
 
   -- ---- beacon
 
   module _ (w : World) (s : Sound present sources dests w) (lane : ℕ)
       (after : Fit present sources dests (model.step R (yardView w) (beacon lane))) where
-    beacon-accepted : lane < 8 → hasLane present lane ≡ true → w .yard .beacons < 1024 → Simulates present sources dests w (beacon lane)
+    beacon-accepted : lane < 8 → hasLane present lane ≡ true → beaconsAt (w .yard) lane < 128 → Simulates present sources dests w (beacon lane)
     unfolding answer sentBy model.step model.sentBy
     beacon-accepted l e h = record {
       view = beacon-view present sources dests w s lane l inside h room ∙ sym done-step;
@@ -73,9 +73,9 @@ module _ (present sources dests : ℕ) where
         room = omega (arith, ap (λ (Z : model.Yard). Z .frames) done-step, after .room)
 
     pub beacon-simulates : Simulates present sources dests w (beacon lane)
-    beacon-simulates = go (below-or-not lane 8) (true-or-false (hasLane present lane)) (below-or-not (w .yard .beacons) 1024)
+    beacon-simulates = go (below-or-not lane 8) (true-or-false (hasLane present lane)) (below-or-not (beaconsAt (w .yard) lane) 128)
       where
-        go : (lane < 8) ⊎ (8 ≤ lane) → (hasLane present lane ≡ true) ⊎ (hasLane present lane ≡ false) → (w .yard .beacons < 1024) ⊎ (1024 ≤ w .yard .beacons)
+        go : (lane < 8) ⊎ (8 ≤ lane) → (hasLane present lane ≡ true) ⊎ (hasLane present lane ≡ false) → (beaconsAt (w .yard) lane < 128) ⊎ (128 ≤ beaconsAt (w .yard) lane)
             → Simulates present sources dests w (beacon lane)
         go (inr l) e h =
             let c = beacon-yard-4 w lane l in

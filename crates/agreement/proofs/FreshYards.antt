@@ -14,7 +14,7 @@ use Rattle.cells.specs.Sets.{hasLane, roleAstray}
 use Rattle.post.specs.declared.Post.{Post}
 use Rattle.post.specs.Record.{freshPost}
 use Rattle.judge.specs.Judgement.{badRecord}
-use Rattle.state.specs.Yards.{noPost, postAt, freshYard, yardRefusal}
+use Rattle.state.specs.Yards.{noPost, postAt, beaconsAt, freshYard, yardRefusal}
 use Rattle.roll.specs.Logs.{logAt}
 use Rattle.laws.proofs.TestLaws.{below-or-not, and-parts}
 use Rattle.laws.proofs.Valid.{Valid, valid-judged}
@@ -23,9 +23,13 @@ use Rattle.model.proofs.Model as model
 use Rattle.model.proofs.Invariants.{RolesOk}
 use Rattle.agreement.specs.Demand3.{freshWorld}
 use Rattle.agreement.proofs.Views.{rolesOf, placesView, postView, airView, yardView}
-use Rattle.agreement.proofs.ArrayViews.{places-zeros}
+use Rattle.agreement.proofs.ArrayViews.{lanes-zeros, places-zeros}
 use Rattle.agreement.proofs.PostViews.{view-fresh, view-none}
 use Rattle.agreement.proofs.Sound.{InYard, Sound}
+
+-- a lane of a set is one of the eight
+pub below-eight : (set i : ℕ) → hasLane set i ≡ true → i < 8
+below-eight set i e = ltb-true i 8 (and-parts (ltb i 8) (eqb (set / 2 ^ i % 2) 1) e .0)
 
 module _ (present sources dests : ℕ) where
   -- the record of each lane
@@ -56,9 +60,13 @@ module _ (present sources dests : ℕ) where
       go (inl l) = ap postView (fresh-at lane l) ∙ view-fresh lane present sources dests
       go (inr l) = ap postView (none-past lane l) ∙ view-none
 
-  fresh-numbers : (freshYard present sources dests .frames ≡ 0) × (freshYard present sources dests .beacons ≡ 0)
+  fresh-frames : freshYard present sources dests .frames ≡ 0
   unfolding freshYard
-  fresh-numbers = (refl, refl)
+  fresh-frames = refl
+
+  pub fresh-beacons : beaconsAt (freshYard present sources dests) ≡ (λ (i : ℕ). 0)
+  unfolding freshYard
+  fresh-beacons = lanes-zeros 8
 
   fresh-first : placesView (freshYard present sources dests .first) ≡ (λ (i n : ℕ). 0)
   unfolding freshYard
@@ -68,9 +76,9 @@ module _ (present sources dests : ℕ) where
   unfolding model.fresh
   fresh-view air = λ t. record {
     posts = λ lane. fresh-post-view lane t;
-    air = airView air (fresh-numbers .0 t);
-    frames = fresh-numbers .0 t;
-    beacons = fresh-numbers .1 t;
+    air = airView air (fresh-frames t);
+    frames = fresh-frames t;
+    beacons = fresh-beacons t;
     first = fresh-first t;
   }
 
@@ -96,9 +104,6 @@ module _ (present sources dests : ℕ) where
     first-valid : Valid (freshPost 0 present sources dests)
     first-valid = fresh-valid 0 present sources dests (omega arith) (neither-arises .1)
 
-    below-eight : (set i : ℕ) → hasLane set i ≡ true → i < 8
-    below-eight set i e = ltb-true i 8 (and-parts (ltb i 8) (eqb (set / 2 ^ i % 2) 1) e .0)
-
     pub roles-ok : RolesOk (rolesOf present sources dests)
     roles-ok = record {
       sourcesPresent = λ i e. first-valid .sources i (below-eight sources i e) e;
@@ -121,10 +126,11 @@ module _ (present sources dests : ℕ) where
       itsPresent = unfold freshYard in refl;
       itsSources = unfold freshYard in refl;
       eight = eight-posts;
+      counts = unfold freshYard in length-replicate {A = ℕ} 8 0;
       places = unfold freshYard in length-replicate {A = ℕ} 128 0;
       whole = e;
       post = fresh-in-yard;
-      onAir = λ k l. absurd (omega (arith, fresh-numbers .0));
+      onAir = λ k l. absurd (omega (arith, fresh-frames));
     }
 
     pub fresh-records : (lane : ℕ) → lane < 8 → badRecord (postAt (freshYard present sources dests) lane) ≡ false

@@ -12,7 +12,7 @@ use Rattle.post.specs.Record.{lastOf}
 use Rattle.post.specs.Taking.{taken}
 use Rattle.steps.specs.Refusals.{isNext, hearRefusal}
 use Rattle.steps.specs.Steps.{hearStep}
-use Rattle.state.specs.Yards.{postAt}
+use Rattle.state.specs.Yards.{postAt, beaconsAt}
 use Rattle.yard.specs.Singles.{frameAt}
 use Rattle.yard.specs.Worlds.{World, hear, single}
 use Rattle.laws.proofs.ValidSteps.{heardPost, heard-taken, heard-other, heard-shaped, heard-valid, hear-post}
@@ -103,7 +103,7 @@ module _ (present sources dests : ℕ) where
             posts = (posts-view (w .yard .posts) lane (hearStep p f .post) (s .eight) (h .here) ∙ ap (upd (yardView w .posts) lane) view-calm) t;
             air = airView (w .air) (w .yard .frames);
             frames = w .yard .frames;
-            beacons = w .yard .beacons;
+            beacons = beaconsAt (w .yard);
             first = placesView (w .yard .first);
           })
           ∙ sym calm
@@ -113,6 +113,7 @@ module _ (present sources dests : ℕ) where
         itsPresent = s .itsPresent;
         itsSources = s .itsSources;
         eight = length-set (w .yard .posts) lane (hearStep p f .post) ∙ s .eight;
+        counts = s .counts;
         places = s .places;
         whole = s .whole;
         post = posts-in-yard present sources dests (w .yard .posts) lane (hearStep p f .post) (s .eight) (h .here) (s .post)
@@ -165,7 +166,7 @@ module _ (present sources dests : ℕ) where
             air = (air-spoken (w .air) (w .yard .frames) (hearStep p f .frame) (s .whole) room can-send
                 ∙ ap (upd (yardView w .air) (w .yard .frames)) view-frame) t;
             frames = add-one (w .yard .frames) t;
-            beacons = w .yard .beacons;
+            beacons = beaconsAt (w .yard);
             first = placesView (w .yard .first);
           })
           ∙ sym took
@@ -175,6 +176,7 @@ module _ (present sources dests : ℕ) where
         itsPresent = s .itsPresent;
         itsSources = s .itsSources;
         eight = length-set (w .yard .posts) lane (hearStep p f .post) ∙ s .eight;
+        counts = s .counts;
         places = s .places;
         whole = length-stays (w .air) (w .yard .frames) (hearStep p f .frame) ∙ s .whole;
         post = posts-in-yard present sources dests (w .yard .posts) lane (hearStep p f .post) (s .eight) (h .here) (s .post)

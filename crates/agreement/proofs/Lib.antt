@@ -25,4 +25,6 @@ pub mod FreshYards
 pub mod WrongAir
 pub mod Beginnings
 pub mod Promises
+pub mod BeaconCounts
+pub mod Granted
 pub mod Theorem

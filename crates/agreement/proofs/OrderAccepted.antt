@@ -11,7 +11,7 @@ use Rattle.post.specs.declared.Post as posts
 use Rattle.post.specs.Taking.{ownTaken}
 use Rattle.steps.specs.Refusals.{orderRefusal}
 use Rattle.steps.specs.Steps.{orderStep}
-use Rattle.state.specs.Yards.{postAt}
+use Rattle.state.specs.Yards.{postAt, beaconsAt}
 use Rattle.yard.specs.Worlds.{World, order, single}
 use Rattle.roll.specs.Runs.{Order}
 use Rattle.laws.proofs.Hearable.{orderable}
@@ -111,7 +111,7 @@ module _ (present sources dests : ℕ) where
       air = (air-spoken (w .air) (w .yard .frames) (orderStep p word .frame) (s .whole) room can-send
           ∙ ap (upd (yardView w .air) (w .yard .frames)) view-frame) t;
       frames = add-one (w .yard .frames) t;
-      beacons = w .yard .beacons;
+      beacons = beaconsAt (w .yard);
       first = (places-set (w .yard .first) lane (p .serial .0 + 1) (w .yard .frames) (s .places) here (omega arith) (omega (arith, orderable p z .serial))
           ∙ ap (λ (n : ℕ). upd2 (placesView (w .yard .first)) lane n (w .yard .frames)) (add-one (p .serial .0))) t;
     }
@@ -121,6 +121,7 @@ module _ (present sources dests : ℕ) where
       itsPresent = s .itsPresent;
       itsSources = s .itsSources;
       eight = length-set (w .yard .posts) lane (orderStep p word .post) ∙ s .eight;
+      counts = s .counts;
       places = length-set (w .yard .first) (orderPlace lane (p .serial .0 + 1)) (w .yard .frames) ∙ s .places;
       whole = length-stays (w .air) (w .yard .frames) (orderStep p word .frame) ∙ s .whole;
       post = posts-in-yard present sources dests (w .yard .posts) lane (orderStep p word .post) (s .eight) here (s .post)

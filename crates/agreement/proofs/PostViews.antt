@@ -33,7 +33,7 @@ use Rattle.laws.proofs.Hearable.{next-is}
 use Rattle.model.proofs.Functions.{upd, upd2}
 use Rattle.model.proofs.Model as model
 use Rattle.agreement.proofs.Views.{postView, frameView, placesView}
-use Rattle.agreement.proofs.ArrayViews.{last-set, table-set, serialsOf, stampsOf, table-raised, places-set, last-zeros, table-zeros, places-zeros}
+use Rattle.agreement.proofs.ArrayViews.{lanes-set, table-set, serialsOf, stampsOf, table-raised, places-set, lanes-zeros, table-zeros, places-zeros}
 
 -- ---- the log while an order is taken
 
@@ -84,7 +84,7 @@ view-ordered p word s v h =
     (λ t. record {
       clock = clock;
       own = serial;
-      last = last-set (p .last) (p .lane) serial (s .last) (v .lane) t;
+      last = lanes-set (p .last) (p .lane) serial (s .last) (v .lane) t;
       table = table-set (p .table) (p .lane) serial clock (s .table) (v .lane) (omega arith) t;
       stamps = places-set (p .stamps) (p .lane) serial clock (s .stamps) (v .lane) (omega arith) (omega arith) t;
       words = places-set (p .words) (p .lane) serial word (s .words) (v .lane) (omega arith) (omega arith) t;
@@ -152,7 +152,7 @@ view-taken p f s v z c n R r = rw r (go (isSource p (p .lane)))
     log = kept-log p (p .clock .0) (p .serial .0) table (f .lane) (f .serial .0) (f .stamp .0) (f .word) s v next (order .serial)
 
     last : (λ (i : ℕ). lastOf q i) ≡ upd (λ (i : ℕ). lastOf p i) (f .lane) (f .serial .0)
-    last = last-set (p .last) (f .lane) (f .serial .0) (s .last) (order .lane)
+    last = lanes-set (p .last) (f .lane) (f .serial .0) (s .last) (order .lane)
 
     stamps : placesView (q .stamps) ≡ upd2 (placesView (p .stamps)) (f .lane) (f .serial .0) (f .stamp .0)
     stamps = places-set (p .stamps) (f .lane) (f .serial .0) (f .stamp .0) (s .stamps) (order .lane) (order .some) few
@@ -192,7 +192,7 @@ unfolding model.freshPost
 view-fresh lane posts sources dests = λ t. record {
   clock = 0;
   own = 0;
-  last = last-zeros 8 t;
+  last = lanes-zeros 8 t;
   table = table-zeros 136 t;
   stamps = places-zeros 128 t;
   words = places-zeros 128 t;

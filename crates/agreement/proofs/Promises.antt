@@ -9,7 +9,7 @@ use Rattle.steps.specs.Refusals.{isOrder}
 use Rattle.yard.specs.Singles.{frameAt}
 use Rattle.yard.specs.Worlds.{World}
 use Rattle.roll.specs.Runs.{Step, run, Order, sent}
-use Rattle.roll.specs.Taken.{sumBelow, ordersTaken}
+use Rattle.roll.specs.Taken.{sumBelow, ordersTaken, beaconsOfAll}
 use Rattle.laws.specs.Lists.{Mem}
 use Rattle.model.proofs.Model as model
 use Rattle.model.proofs.Invariants.{Sent, FrameOk, YardOk}
@@ -65,3 +65,8 @@ first-frame R v o k y s f = record {
 pub taken-total : (v : World) → total (yardView v .posts) ≡ ordersTaken v
 unfolding total ordersTaken sumBelow
 taken-total v = refl
+
+-- and the beacons that they have sent
+pub beacons-total : (v : World) → sumBelow 8 (yardView v .beacons) ≡ beaconsOfAll v
+unfolding beaconsOfAll
+beacons-total v = refl

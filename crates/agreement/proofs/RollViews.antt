@@ -1,12 +1,8 @@
 -- The roll call's list of single steps is the model's list, and S and N are counts of ones. Assumes nothing.
-use mathlib.Core.Path.{_≡_, refl, sym, ap, _∙_}
-use mathlib.Core.Bool.{Bool, true, false, cond}
-use Prim.Native.Nat.{ℕ, zero, suc, _+_, _/_, _%_, _^_, _<_}
-use native.Mathlib.Omega.{arith}
-use lib.Dec.{eqb}
-use lib.Count.{ones, onesIn, ones-step}
-use borrow.Author.Tests.{eqb-true, eqb-false, lt-ltb}
-use Rattle.cells.specs.Sets.{hasLane}
+use mathlib.Core.Path.{_≡_, refl, _∙_}
+use Prim.Native.Nat.{ℕ, zero, suc, _<_}
+use lib.Count.{ones}
+use Rattle.laws.proofs.LaneCounts.{lanesBelow, lanes-ones}
 use Rattle.state.specs.Yards.{postAt}
 use Rattle.yard.specs.Worlds.{World}
 use Rattle.roll.specs.RollCall.{laneHears, lanesHears, postsHear, beaconsSent, sourcesBelow, beaconsHeard, postsHearBeacons}
@@ -56,66 +52,8 @@ module _ (present sources dests : ℕ) where
   posts-heard-same c zero = refl
   posts-heard-same c (suc p) = rw (posts-heard-same c p, heard-same c p 8)
 
--- ---- counts of ones
+-- ---- S and N are counts of ones
 
--- one lane's part of the count
-lane-count : (set i : ℕ) → i < 8 → _≡_ {A = ℕ} (cond (hasLane set i) 1 0) (set / 2 ^ i % 2)
-lane-count set i h = rw (lt-ltb i 8 h) (go (eqb (set / 2 ^ i % 2) 1) refl)
-  where
-    go : (b : Bool) → eqb (set / 2 ^ i % 2) 1 ≡ b → _≡_ {A = ℕ} (cond b 1 0) (set / 2 ^ i % 2)
-    go true e = sym (eqb-true (set / 2 ^ i % 2) 1 e)
-    go false e = omega (arith, eqb-false (set / 2 ^ i % 2) 1 e)
-
-half : (n m : ℕ) → m ≡ n / 2 → ones n ≡ n % 2 + ones m
-half n m e = ones-step n ∙ rw e refl
-
--- the ones of an eight-bit set, lane by lane
-ones-eight : (set : ℕ) → set < 256
-    → ones set ≡ set % 2 + (set / 2 % 2 + (set / 4 % 2 + (set / 8 % 2 + (set / 16 % 2 + (set / 32 % 2 + (set / 64 % 2 + set / 128 % 2))))))
-ones-eight set l = omega (
-  arith,
-  half set (set / 2) (omega arith),
-  half (set / 2) (set / 4) (omega arith),
-  half (set / 4) (set / 8) (omega arith),
-  half (set / 8) (set / 16) (omega arith),
-  half (set / 16) (set / 32) (omega arith),
-  half (set / 32) (set / 64) (omega arith),
-  half (set / 64) (set / 128) (omega arith),
-  half (set / 128) 0 (omega arith),
-  none,
-)
-  where
-    none : ones 0 ≡ 0
-    none = unfold ones onesIn in refl
-
--- how many lanes below k a set has
-unfoldable pub lanesBelow : ℕ → ℕ → ℕ
-lanesBelow set zero = 0
-lanesBelow set (suc i) = lanesBelow set i + cond (hasLane set i) 1 0
-
-joined : (a b c d e f g h n : ℕ) → n ≡ a + (b + (c + (d + (e + (f + (g + h)))))) → 0 + a + b + c + d + e + f + g + h ≡ n
-joined a b c d e f g h n q = omega arith
-
-whole-part : (set : ℕ) → set / 1 % 2 ≡ set % 2
-whole-part set = ap (λ (x : ℕ). x % 2) (omega arith)
-
-pub lanes-ones : (set : ℕ) → set < 256 → lanesBelow set 8 ≡ ones set
-unfolding lanesBelow
-lanes-ones set l =
-    rw (
-      lane-count set 0 (omega arith),
-      lane-count set 1 (omega arith),
-      lane-count set 2 (omega arith),
-      lane-count set 3 (omega arith),
-      lane-count set 4 (omega arith),
-      lane-count set 5 (omega arith),
-      lane-count set 6 (omega arith),
-      lane-count set 7 (omega arith),
-      whole-part set,
-    )
-    (joined (set % 2) (set / 2 % 2) (set / 4 % 2) (set / 8 % 2) (set / 16 % 2) (set / 32 % 2) (set / 64 % 2) (set / 128 % 2) (ones set) (ones-eight set l))
-
--- so S and N are
 module _ (present sources dests : ℕ) where
   sources-below : (k : ℕ) → model.sourcesBelow (rolesOf present sources dests) k ≡ lanesBelow sources k
   unfolding model.sourcesBelow lanesBelow

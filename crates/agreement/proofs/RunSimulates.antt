@@ -7,7 +7,7 @@ use native.Mathlib.Omega.{arith}
 use lib.ListN.{length}
 use borrow.Author.Tests.{eq-eqb, ne-eqb}
 use Rattle.yard.specs.Worlds.{World, Single, singles}
-use Rattle.roll.specs.RollCall.{rollSteps, rollRefusal, rollCall, rollCallAir}
+use Rattle.roll.specs.RollCall.{rollSteps, sourceSpent, rollRefusal, rollCall, rollCallAir}
 use Rattle.roll.specs.Runs.{Step, one, roll, answer, step, run, Order, sentBy, sent}
 use Rattle.roll.specs.Answers.{answerNumber}
 use Rattle.laws.proofs.TestLaws.{same-or-not}
@@ -18,10 +18,9 @@ use Rattle.agreement.specs.YardRefusals.{stepRefusal}
 use Rattle.agreement.proofs.Views.{rolesOf, yardView}
 use Rattle.agreement.proofs.Sound.{Sound}
 use Rattle.agreement.proofs.Simulates.{Fit, Simulates}
-use Rattle.agreement.proofs.RollViews.{count-sources}
 use Rattle.agreement.proofs.ListSimulates.{one-simulates, ListSimulates, list-simulates, roll-same}
 
-module _ (present sources dests : ℕ) (small : sources < 256) (ro : RolesOk (rolesOf present sources dests)) where
+module _ (present sources dests : ℕ) (ro : RolesOk (rolesOf present sources dests)) where
   abbrev R : model.Roles
   R = rolesOf present sources dests
 
@@ -51,8 +50,8 @@ module _ (present sources dests : ℕ) (small : sources < 256) (ro : RolesOk (ro
 
   -- it is refused as the model's is
   pub roll-number : (w : World) → Sound present sources dests w → rollRefusal w ≡ rollRefused R (yardView w)
-  unfolding rollRefusal rollRefused
-  roll-number w s = rw (eq-eqb (length (w .air)) 65536 (s .whole), s .itsSources, count-sources present sources dests small)
+  unfolding rollRefusal sourceSpent rollRefused
+  roll-number w s = rw (eq-eqb (length (w .air)) 65536 (s .whole), s .itsSources)
 
   pub roll-done : (w : World) → rollRefusal w ≡ 0 → step w roll ≡ singles w (rollSteps w)
   unfolding step rollCall rollCallAir

@@ -35,7 +35,7 @@ pub record SameRoles (p q : Post) : Type 0 where
   pub sources : q .sources ≡ p .sources
   pub dests : q .dests ≡ p .dests
 
-same-roles : (p : Post) → SameRoles p p
+pub same-roles : (p : Post) → SameRoles p p
 same-roles p = record { lane = refl; posts = refl; sources = refl; dests = refl }
 
 -- ---- the steps of a post keep its lane and roles
@@ -76,7 +76,7 @@ heard-roles p f = go (true-or-false (isNext f (lastOf p (f .lane))))
     go (inl e) = rw (heard-taken p f e) (taken-roles p f)
     go (inr e) = rw (heard-other p f e) (raised-roles p f)
 
-then-roles : (p q r : Post) → SameRoles p q → SameRoles q r → SameRoles p r
+pub then-roles : (p q r : Post) → SameRoles p q → SameRoles q r → SameRoles p r
 then-roles p q r a b = record {
   lane = b .lane ∙ a .lane;
   posts = b .posts ∙ a .posts;
@@ -84,7 +84,7 @@ then-roles p q r a b = record {
   dests = b .dests ∙ a .dests;
 }
 
-order-roles : (p : Post) (word : ℕ) → SameRoles p (orderStep p word .post)
+pub order-roles : (p : Post) (word : ℕ) → SameRoles p (orderStep p word .post)
 order-roles p word = go (same-or-not (orderRefusal p) 0)
   where
     go : (orderRefusal p ≡ 0) ⊎ (orderRefusal p ≢ 0) → SameRoles p (orderStep p word .post)
@@ -93,7 +93,7 @@ order-roles p word = go (same-or-not (orderRefusal p) 0)
         (then-roles p (ownTaken p word) (delivered (ownTaken p word) .post) (ordered-roles p word) (delivered-roles (ownTaken p word)))
     go (inr n) = rw (order-refused p word n) (same-roles p)
 
-hear-roles : (p : Post) (f : Frame) → SameRoles p (hearStep p f .post)
+pub hear-roles : (p : Post) (f : Frame) → SameRoles p (hearStep p f .post)
 hear-roles p f = go (same-or-not (hearRefusal p f) 0)
   where
     go : (hearRefusal p f ≡ 0) ⊎ (hearRefusal p f ≢ 0) → SameRoles p (hearStep p f .post)
@@ -158,6 +158,7 @@ module _ (present sources dests : ℕ) where
     pub itsPresent : w .yard .present ≡ present
     pub itsSources : w .yard .sources ≡ sources
     pub eight : length (w .yard .posts) ≡ 8
+    pub counts : length (w .yard .beacons) ≡ 8
     pub places : length (w .yard .first) ≡ 128
     pub whole : length (w .air) ≡ 65536
     pub post : (lane : ℕ) → lane < 8 → InYard lane (postAt (w .yard) lane)

@@ -1,5 +1,5 @@
 -- DEMAND 3, proved: `agreement`, of specs/Demand3.antt; and what else holds of every yard: `facts`, of specs/YardFacts.antt. Assumes nothing.
-use mathlib.Core.Path.{_≡_, refl, sym, ap, _∙_, subst}
+use mathlib.Core.Path.{_≡_, refl, sym, ap, ap₂, _∙_, subst}
 use mathlib.Core.List.{List, [], _∷_, _++_, append-nil}
 use mathlib.Core.Logic.{_⊎_, inl, inr, _≢_}
 use Prim.Native.Nat.{ℕ, _+_, _<_}
@@ -7,17 +7,18 @@ use native.Mathlib.Omega.{arith}
 use lib.ListN.{length, getD}
 use borrow.Author.Tests.{ne-eqb}
 use Rattle.cells.specs.Tables.{orderPlace}
-use Rattle.state.specs.Yards.{postAt, freshYard, yardRefusal}
+use Rattle.state.specs.Yards.{postAt, beaconsAt, freshYard, yardRefusal}
 use Rattle.yard.specs.Worlds.{World}
 use Rattle.roll.specs.declared.RollAnswer as calling
 use Rattle.roll.specs.RollCall.{rollSteps, rollRefusal, rollCall}
 use Rattle.roll.specs.Runs.{Step, roll, Answer, ordered, heard, beaconed, called, answer, step, run, Order, sent}
 use Rattle.roll.specs.Logs.{logAt, inOrder}
 use Rattle.roll.specs.Answers.{answerNumber}
-use Rattle.roll.specs.Taken.{sumBelow, ordersTaken}
+use Rattle.roll.specs.Taken.{sumBelow, ordersTaken, beaconsOfAll}
 use Rattle.laws.proofs.TestLaws.{same-or-not}
 use Rattle.laws.proofs.ListLaws.{Mem, Begins}
 use Rattle.laws.proofs.Valid.{valid-judged}
+use Rattle.model.proofs.Functions.{sum-bound}
 use Rattle.model.proofs.Model as model
 use Rattle.model.proofs.Invariants.{RolesOk}
 use Rattle.model.proofs.Air.{total-bound}
@@ -30,10 +31,10 @@ use Rattle.agreement.proofs.Sound.{Sound}
 use Rattle.agreement.proofs.RollViews.{count-sources, count-posts}
 use Rattle.agreement.proofs.ListSimulates.{list-accepted, roll-same}
 use Rattle.agreement.proofs.RunSimulates.{Keeps, fits, next, StepSimulates, step-simulates, roll-number, roll-done, RunSimulates, run-simulates}
-use Rattle.agreement.proofs.FreshYards.{fresh-serial, fresh-view, fresh-log, roles-ok, fresh-sound, fresh-records, some-ones}
+use Rattle.agreement.proofs.FreshYards.{fresh-beacons, fresh-serial, fresh-view, fresh-log, roles-ok, fresh-sound, fresh-records, some-ones}
 use Rattle.agreement.proofs.WrongAir.{Refused, each-refused, never-runs, never-sends}
 use Rattle.agreement.proofs.Beginnings.{begin-each-other}
-use Rattle.agreement.proofs.Promises.{one-list, serials, first-frame, taken-total}
+use Rattle.agreement.proofs.Promises.{one-list, serials, first-frame, taken-total, beacons-total}
 
 -- how many steps an answer says were run
 abbrev stepsSaid : Answer → ℕ
@@ -78,11 +79,11 @@ module _ (present sources dests : ℕ) (air : List ℕ) (small : present < 256) 
     start : Sound present sources dests w
     start = fresh-sound present sources dests small smallSources smallDests z air whole
 
-    start-keeps : Keeps present sources dests smallSources ro (yardView w)
+    start-keeps : Keeps present sources dests ro (yardView w)
     start-keeps = ([], subst (λ (X : model.Yard). moving.Good R ro X []) (sym (fresh-view present sources dests air)) (moving.fresh-good R ro (airView air 0)))
 
-    pub reached : (steps : List Step) → RunSimulates present sources dests smallSources ro w steps
-    reached steps = run-simulates present sources dests smallSources ro w start start-keeps steps
+    pub reached : (steps : List Step) → RunSimulates present sources dests ro w steps
+    reached steps = run-simulates present sources dests ro w start start-keeps steps
 
     -- the model after the same steps
     view : (steps : List Step) → yardView (run w steps) ≡ moving.moves R Y steps
@@ -94,8 +95,8 @@ module _ (present sources dests : ℕ) (air : List ℕ) (small : present < 256) 
     pub good : (steps : List Step) → moving.Good R ro (yardView (run w steps)) (sent w steps)
     good steps = rw (view steps, sends steps) (moving.good R ro (airView air 0) steps)
 
-    each : (steps : List Step) (s : Step) → StepSimulates present sources dests smallSources ro (run w steps) s
-    each steps s = step-simulates present sources dests smallSources ro (run w steps) (reached steps .sound) (sent w steps, good steps) s
+    each : (steps : List Step) (s : Step) → StepSimulates present sources dests ro (run w steps) s
+    each steps s = step-simulates present sources dests ro (run w steps) (reached steps .sound) (sent w steps, good steps) s
 
     log-is : (steps : List Step) (lane : ℕ) → logAt (run w steps) lane ≡ moving.moves R Y steps .posts lane .log
     log-is steps lane = ap (λ (X : model.Yard). X .posts lane .log) (view steps)
@@ -117,7 +118,7 @@ module _ (present sources dests : ℕ) (air : List ℕ) (small : present < 256) 
         (rw (view steps) at (unrefused (ran .0))) in
         record {
           logs = λ lane d. rw (log-is (steps ++ (roll ∷ [])) lane, sends (steps ++ (roll ∷ [])), c .noneSent) (c .logsWhole lane d);
-          did = run-last w steps roll ∙ roll-done present sources dests smallSources ro (run w steps) (ran .0);
+          did = run-last w steps roll ∙ roll-done present sources dests ro (run w steps) (ran .0);
           ran = ran .1;
           accepted = all-accepted (ran .0);
           formula = ran .1 ∙ counted ∙ c .answerIs
@@ -126,12 +127,12 @@ module _ (present sources dests : ℕ) (air : List ℕ) (small : present < 256) 
       where
         -- the model's call is not refused either
         unrefused : rollRefusal (run w steps) ≡ 0 → moving.rollRefused R (yardView (run w steps)) ≡ 0
-        unrefused z = sym (roll-number present sources dests smallSources ro (run w steps) (reached steps .sound)) ∙ z
+        unrefused z = sym (roll-number present sources dests ro (run w steps) (reached steps .sound)) ∙ z
 
         -- its list of single steps is the model's
         listed : rollSteps (run w steps) ≡ model.rollSteps R (yardView (run w steps))
-        listed = roll-same present sources dests (Keeps present sources dests smallSources ro) (fits present sources dests smallSources ro)
-            (next present sources dests smallSources ro) (run w steps) (reached steps .sound) (sent w steps, good steps)
+        listed = roll-same present sources dests (Keeps present sources dests ro) (fits present sources dests ro)
+            (next present sources dests ro) (run w steps) (reached steps .sound) (sent w steps, good steps)
 
         counted : length (rollSteps (run w steps)) ≡ moving.rollAnswer R (moving.moves R Y steps)
         counted = ap length listed
@@ -141,10 +142,10 @@ module _ (present sources dests : ℕ) (air : List ℕ) (small : present < 256) 
         all-accepted : rollRefusal (run w steps) ≡ 0 → AllAccepted (run w steps) (rollSteps (run w steps))
         all-accepted z =
             let g = good steps in
-            list-accepted present sources dests (Keeps present sources dests smallSources ro) (fits present sources dests smallSources ro)
-            (next present sources dests smallSources ro) (run w steps) (reached steps .sound) (sent w steps, g) (rollSteps (run w steps))
+            list-accepted present sources dests (Keeps present sources dests ro) (fits present sources dests ro)
+            (next present sources dests ro) (run w steps) (reached steps .sound) (sent w steps, g) (rollSteps (run w steps))
             (rw listed (roll-accepted R ro (yardView (run w steps)) (g .yardOk) (g .airOk)
-            (moving.roll-room R (yardView (run w steps)) (g .airOk .beaconsAtMost) (unrefused z))))
+            (moving.roll-left R (yardView (run w steps)) ro (unrefused z))))
 
     firsts : (steps : List Step) (o : Order) → Mem o (sent w steps)
         → FirstFrame (run w steps) o (getD (run w steps .yard .first) (orderPlace (o .lane) (o .serial)) 0)
@@ -166,9 +167,10 @@ module _ (present sources dests : ℕ) (air : List ℕ) (small : present < 256) 
     facts-hold = record {
       refusals = λ steps s. each steps s .number;
       stays = λ steps s h. each steps s .stays (rw (each steps s .number) at h);
-      frames = λ steps. good steps .airOk .framesCount ∙ ap (λ (n : ℕ). n + run w steps .yard .beacons) (taken-total (run w steps));
+      frames = λ steps. good steps .airOk .framesCount ∙ ap₂ _+_ (taken-total (run w steps)) (beacons-total (run w steps));
       takenBound = λ steps. rw (← taken-total (run w steps)) (total-bound R (yardView (run w steps)) (good steps .yardOk));
-      beaconBound = λ steps. good steps .airOk .beaconsAtMost;
+      postBound = λ steps. good steps .airOk .beaconsAtMost;
+      beaconBound = λ steps. rw (← beacons-total (run w steps)) (sum-bound (yardView (run w steps) .beacons) 8 128 (good steps .airOk .beaconsAtMost));
       serials = λ steps lane. serials R w steps lane (good steps .yardOk) (good steps .sentListed);
       records = λ steps lane l. valid-judged (postAt (run w steps .yard) lane) (reached steps .sound .post lane l .valid);
       firsts = firsts;
@@ -193,8 +195,11 @@ module _ (present sources dests : ℕ) (air : List ℕ) (small : present < 256) 
     none-taken : ordersTaken w ≡ 0
     none-taken = unfold freshYard ordersTaken sumBelow in refl
 
-    none-aired : w .yard .frames ≡ ordersTaken w + w .yard .beacons
-    none-aired = unfold freshYard ordersTaken sumBelow in refl
+    none-aired : w .yard .frames ≡ ordersTaken w + beaconsOfAll w
+    none-aired = unfold freshYard ordersTaken beaconsOfAll sumBelow in refl
+
+    none-sent : (lane : ℕ) → beaconsAt (w .yard) lane ≡ 0
+    none-sent lane = ap (λ (f : ℕ → ℕ). f lane) (fresh-beacons present sources dests)
 
     -- nothing happens
     idle : Demand3 present sources dests w
@@ -211,7 +216,8 @@ module _ (present sources dests : ℕ) (air : List ℕ) (small : present < 256) 
       stays = λ steps s h. rw (stands steps) (each-refused w bad s .stays);
       frames = λ steps. rw (stands steps) none-aired;
       takenBound = λ steps. rw (stands steps) (omega (arith, none-taken));
-      beaconBound = λ steps. rw (stands steps) (unfold freshYard in omega arith);
+      postBound = λ steps lane. rw (stands steps, none-sent lane) (omega arith);
+      beaconBound = λ steps. rw (stands steps) (unfold freshYard beaconsOfAll sumBelow in omega arith);
       serials = λ steps lane. record {
         few = omega (arith, no-serial steps lane);
         only = rw (nothing-sent steps) (λ o m. absurd m);

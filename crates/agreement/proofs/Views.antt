@@ -11,7 +11,7 @@ use Rattle.cells.specs.Tables.{stampUnder, orderPlace}
 use Rattle.post.specs.declared.Post as posts
 use Rattle.post.specs.Record.{lastOf}
 use Rattle.steps.specs.Refusals.{isOrder}
-use Rattle.state.specs.Yards.{postAt}
+use Rattle.state.specs.Yards.{postAt, beaconsAt}
 use Rattle.yard.specs.Singles.{frameAt}
 use Rattle.yard.specs.Worlds.{World}
 use Rattle.roll.specs.Logs.{ordersLogged}
@@ -57,6 +57,6 @@ yardView w = record {
   posts = λ i. postView (postAt (w .yard) i);
   air = airView (w .air) (w .yard .frames);
   frames = w .yard .frames;
-  beacons = w .yard .beacons;
+  beacons = beaconsAt (w .yard);
   first = placesView (w .yard .first);
 }

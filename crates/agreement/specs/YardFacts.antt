@@ -6,12 +6,12 @@ use Prim.Native.Nat.{ℕ, _+_, _<_, _≤_}
 use lib.ListN.{getD}
 use Rattle.cells.specs.Tables.{orderPlace}
 use Rattle.judge.specs.Judgement.{badRecord}
-use Rattle.state.specs.Yards.{postAt, yardRefusal}
+use Rattle.state.specs.Yards.{postAt, beaconsAt, yardRefusal}
 use Rattle.yard.specs.Singles.{frameAt}
 use Rattle.yard.specs.Worlds.{World}
 use Rattle.roll.specs.Runs.{Step, answer, step, run, Order, sent}
 use Rattle.roll.specs.Answers.{answerNumber}
-use Rattle.roll.specs.Taken.{ordersTaken}
+use Rattle.roll.specs.Taken.{ordersTaken, beaconsOfAll}
 use Rattle.laws.specs.Lists.{Mem}
 use Rattle.agreement.specs.Demand3.{freshWorld}
 use Rattle.agreement.specs.YardRefusals.{stepRefusal}
@@ -43,10 +43,11 @@ pub record YardFacts (w : World) : Type 0 where
   -- "a refused step left both as they were", yard and air
   pub stays : (steps : List Step) (s : Step) → 0 < answerNumber (answer (run w steps) s) → step (run w steps) s ≡ run w steps
   -- every broadcast is on the air, a frame for each order that a post has taken and for each beacon: the air, of 2,048 frames, never overflows
-  pub frames : (steps : List Step) → run w steps .yard .frames ≡ ordersTaken (run w steps) + run w steps .yard .beacons
-  -- "At most 1,024 order frames can arise (8 lanes, 16 orders, 8 posts) and 1,024 beacons are allowed."
+  pub frames : (steps : List Step) → run w steps .yard .frames ≡ ordersTaken (run w steps) + beaconsOfAll (run w steps)
+  -- "At most 1,024 order frames can arise (8 lanes, 16 orders, 8 posts) and 1,024 beacons are allowed": K2, each post has 128 of its own
   pub takenBound : (steps : List Step) → ordersTaken (run w steps) ≤ 1024
-  pub beaconBound : (steps : List Step) → run w steps .yard .beacons ≤ 1024
+  pub postBound : (steps : List Step) (lane : ℕ) → beaconsAt (run w steps .yard) lane ≤ 128
+  pub beaconBound : (steps : List Step) → beaconsOfAll (run w steps) ≤ 1024
   pub serials : (steps : List Step) (lane : ℕ) → Serials w steps lane
   -- no record in a yard is refused by 12
   pub records : (steps : List Step) (lane : ℕ) → lane < 8 → badRecord (postAt (run w steps .yard) lane) ≡ false

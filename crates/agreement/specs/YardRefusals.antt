@@ -5,7 +5,7 @@ use mathlib.Core.Bool.{cond, not}
 use lib.Dec.{ltb, leb, eqb}
 use Rattle.air.specs.Air.{badAir}
 use Rattle.cells.specs.Sets.{hasLane}
-use Rattle.state.specs.Yards.{postAt}
+use Rattle.state.specs.Yards.{postAt, beaconsAt, spent}
 use Rattle.yard.specs.Singles.{frameAt}
 use Rattle.yard.specs.Worlds.{World, order, hear, beacon}
 use Rattle.roll.specs.RollCall.{rollRefusal}
@@ -32,16 +32,16 @@ hearYardRefusal w lane k =
     (cond (eqb (frameAt (w .air) k .sender) lane) 26
     0))))
 
--- beacon: 4, 13, 21, 27 ("for a beacon 1,024 sent")
+-- beacon: 4, 13, 21, 27 (K2, "Refusal 27 for a beacon now looks at that post only.")
 unfoldable pub beaconYardRefusal : World → ℕ → ℕ
 beaconYardRefusal w lane =
     cond (ltb 7 lane) 4
     (cond (badAir (w .air)) 13
     (cond (not (hasLane (w .yard .present) lane)) 21
-    (cond (leb 1024 (w .yard .beacons)) 27
+    (cond (spent (beaconsAt (w .yard) lane)) 27
     0)))
 
--- roll call: 13, 27
+-- roll call: 13, 27 (K2, "when some source has none left")
 abbrev pub stepRefusal : World → Step → ℕ
 stepRefusal w (one (order lane word)) = orderYardRefusal w lane word
 stepRefusal w (one (hear lane k)) = hearYardRefusal w lane k

@@ -39,11 +39,11 @@ use Rattle.commands.specs.Making.{laneNumbers, laneMade, laneBuffer}
 
 -- ---- the state that a script leaves
 
-pub state-yard : (s air state state′ : List ℕ) → length state ≡ 4476 → length state′ ≡ length state → judged s .number ≡ 0 → heldIn state′ ≡ stateHeld s air state
+pub state-yard : (s air state state′ : List ℕ) → length state ≡ 4483 → length state′ ≡ length state → judged s .number ≡ 0 → heldIn state′ ≡ stateHeld s air state
     → yardIn state′ ≡ scriptWorld s air .yard
 unfolding stateHeld
 state-yard s air state state′ h k z e =
-    let q : heldIn state′ ≡ whole (scriptWorld s air .yard) (scriptKnowns s air) = e ∙ rw (eq-eqb (length state) 4476 h, z) in
+    let q : heldIn state′ ≡ whole (scriptWorld s air .yard) (scriptKnowns s air) = e ∙ rw (eq-eqb (length state) 4483 h, z) in
     yard-of state′ (scriptWorld s air .yard) (scriptKnowns s air) (k ∙ h) q
 
 -- ---- a lane of a state

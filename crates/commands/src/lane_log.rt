@@ -18,11 +18,11 @@ const ORDERS: u16 = Serial::LAST as u16;
 
 // The file of the log of a lane of a state, or 21.
 pub(crate) fn put_lane(state: &[u16], lane: usize, buffer: &mut [u8]) -> CsvMade
-    requires { do ⌜ ((← ⟦state.len()⟧) ≡ 4476) × (lane < 8) ⌝ }
+    requires { do ⌜ ((← ⟦state.len()⟧) ≡ 4483) × (lane < 8) ⌝ }
     ensures { λ r. ⌜ r ≡ laneMade (yardIn (now (state .entry))) lane (now (buffer .entry)) ⌝ }
     ensures bytes { λ _. ⌜ now (buffer .exit) ≡ laneBuffer (yardIn (now (state .entry))) lane (now (buffer .entry)) ⌝ }
 {
-    let present = row::get(state, 0);
+    let present = row::get(state, state::PRESENT);
     if !cells::has(present, lane as u16) {
         return CsvMade {
             number: 21,
@@ -30,7 +30,7 @@ pub(crate) fn put_lane(state: &[u16], lane: usize, buffer: &mut [u8]) -> CsvMade
             length: 0,
         };
     }
-    let start = 132 + row::LENGTH * lane;
+    let start = state::ROWS + row::LENGTH * lane;
     let end = start + row::LENGTH;
     let mut numbers = [0u16; csv::NUMBERS];
     let n = log_numbers(&state[start..end], &mut numbers);

@@ -15,7 +15,7 @@ use Rattle.post.specs.declared.Post.{Post}
 use Rattle.steps.specs.Refusals.{notInYard}
 use Rattle.steps.specs.Steps.{orderStep, hearStep, beaconStep}
 use Rattle.steps.specs.declared.HearAnswer as hearings
-use Rattle.state.specs.Yards.{Yard, postAt}
+use Rattle.state.specs.Yards.{Yard, postAt, beaconsAt}
 use Rattle.yard.specs.Singles.{framesAfter, stopsOrder, absentRefusal, stopsHearing, frameAt, stopsBeacon}
 use Rattle.yard.specs.Singles.{postOrders, postOrdersAir, postHears, postHearsAir, postBeacons, postBeaconsAir}
 use Rattle.yard.specs.Singles.{yardOrders, yardOrdersAir, yardHears, yardHearsAir, yardBeacons, yardBeaconsAir}
@@ -155,9 +155,9 @@ module _ (a b : List ℕ) (y : Yard) (h : Alike (y .frames) a b) where
 
   pub yard-beacons : (lane : ℕ) → yardBeacons a y lane ≡ yardBeacons b y lane
   unfolding yardBeacons
-  yard-beacons lane = rw (post-beacons a b (postAt y lane) (y .frames) h (y .beacons)) refl
+  yard-beacons lane = rw (post-beacons a b (postAt y lane) (y .frames) h (beaconsAt y lane)) refl
 
   pub yard-beacons-airs : (lane : ℕ) → Alike (yardBeacons a y lane .yard .frames) (yardBeaconsAir a y lane) (yardBeaconsAir b y lane)
   unfolding yardBeacons yardBeaconsAir
   yard-beacons-airs lane =
-      either (λ (s : YardBeaconed). s .yard .frames) (ltb lane 8) _ _ _ _ _ _ (beacons-airs a b (postAt y lane) (y .frames) h (y .beacons)) h
+      either (λ (s : YardBeaconed). s .yard .frames) (ltb lane 8) _ _ _ _ _ _ (beacons-airs a b (postAt y lane) (y .frames) h (beaconsAt y lane)) h

@@ -1,27 +1,26 @@
 -- A script's lines as a list of steps, and what demand 3 says of it. Assumes nothing.
-use Prim.Native.Nat.{ℕ, _-_, _<_, _≤_}
+use Prim.Native.Nat.{ℕ, _<_, _≤_}
 use mathlib.Core.Path.{_≡_, refl, sym, ap, _∙_}
-use mathlib.Core.Bool.{Bool, true, false, cond, not}
+use mathlib.Core.Bool.{Bool, true, false, cond, not, _&&_}
 use mathlib.Core.List.{List, [], _∷_, _++_, append-assoc}
 use mathlib.Core.Logic.{_⊎_, inl, inr, _≢_}
 use native.Mathlib.Omega.{arith}
-use lib.Count.{ones, ones-le}
 use lib.Dec.{ltb, leb, eqb}
 use lib.ListN.{length}
-use borrow.Author.Tests.{le-ltb, eq-eqb}
+use borrow.Author.Tests.{leb-true, eq-eqb}
 use Rattle.air.specs.Air.{badAir}
 use Rattle.cells.specs.Sets.{hasLane}
 use Rattle.lines.specs.declared.Line.{Line}
-use Rattle.state.specs.Yards.{postAt, yardRefusal}
+use Rattle.state.specs.Yards.{postAt, beaconsAt, spent, yardRefusal}
 use Rattle.yard.specs.Singles.{frameAt}
 use Rattle.yard.specs.Worlds.{World, order, hear, beacon}
-use Rattle.roll.specs.RollCall.{rollRefusal}
+use Rattle.roll.specs.RollCall.{sourceSpent, rollRefusal}
 use Rattle.roll.specs.Runs.{Step, one, roll, answer, step, run, sentBy, sent}
 use Rattle.roll.specs.Runs as runs
 use Rattle.roll.specs.Answers.{answerNumber}
 use Rattle.meaning.specs.Script.{stepOf, worldAfter}
 use Rattle.fits.specs.Printed.{stepsOf}
-use Rattle.laws.proofs.TestLaws.{below-or-not}
+use Rattle.laws.proofs.TestLaws.{true-or-false, and-parts, some-which}
 use Rattle.model.proofs.Functions.{sum-bound}
 use Rattle.model.proofs.Moves.{Good, good-clock}
 use Rattle.agreement.specs.YardRefusals.{orderYardRefusal, hearYardRefusal, beaconYardRefusal, stepRefusal}
@@ -33,7 +32,7 @@ use Rattle.agreement.proofs.FreshYards.{fresh-at}
 use Rattle.agreement.proofs.WrongAir.{never-runs, never-sends}
 use Rattle.agreement.proofs.Theorem.{run-last, ro, reached, good, agreement, facts}
 use Rattle.fits.proofs.ItemLengths.{Short}
-use Rattle.fits.proofs.LineCounts.{spentFrom}
+use Rattle.fits.proofs.LineCounts.{SomeSpent}
 use Rattle.fits.proofs.ScriptCounts.{ordersOf}
 
 -- ---- the lines as a list of steps
@@ -88,10 +87,10 @@ small-number w (one (beacon lane)) =
     two-digits (ltb 7 lane) 4 _ (omega arith)
     (two-digits (badAir (w .air)) 13 _ (omega arith)
     (two-digits (not (hasLane (w .yard .present) lane)) 21 _ (omega arith)
-    (two-digits (leb 1024 (w .yard .beacons)) 27 0 (omega arith) (omega arith))))
+    (two-digits (spent (beaconsAt (w .yard) lane)) 27 0 (omega arith) (omega arith))))
 small-number w roll =
     two-digits (badAir (w .air)) 13 _ (omega arith)
-    (two-digits (ltb (1024 - w .yard .beacons) (ones (w .yard .sources))) 27 0 (omega arith) (omega arith))
+    (two-digits (sourceSpent (w .yard)) 27 0 (omega arith) (omega arith))
 
 -- ---- the worlds that a list of steps leads to
 
@@ -146,10 +145,10 @@ module _ (present sources dests : ℕ) (air : List ℕ) (small : present < 256) 
         low : (i : ℕ) → yardView (run w steps) .posts i .clock ≤ 1024
         low i = good-clock (rolesOf present sources dests) (ro present sources dests air small smallSources smallDests z whole) (yardView (run w steps)) (sent w steps) g i
 
-    -- a roll call is refused only where fewer than eight beacons are left
-    pub right-spent : (v : World) → LedTo w v → rollRefusal v ≢ 0 → spentFrom ≤ v .yard .beacons
-    unfolding rollRefusal
-    right-spent v r n = rw (← (r .1)) (go (below-or-not (1024 - u .yard .beacons) (ones (u .yard .sources))))
+    -- a roll call is refused only where some source has sent its 128
+    pub right-spent : (v : World) → LedTo w v → rollRefusal v ≢ 0 → SomeSpent v
+    unfolding rollRefusal sourceSpent
+    right-spent v r n = rw (← (r .1)) (go (true-or-false (sourceSpent (u .yard))))
       where
         u : World
         u = run w (r .0)
@@ -157,12 +156,14 @@ module _ (present sources dests : ℕ) (air : List ℕ) (small : present < 256) 
         so : Sound present sources dests u
         so = reached present sources dests air small smallSources smallDests z whole (r .0) .sound
 
-        eight : ones (u .yard .sources) ≤ 8
-        eight = rw (so .itsSources) (ones-le 8 sources smallSources)
+        test : ℕ → Bool
+        test i = hasLane (u .yard .sources) i && spent (beaconsAt (u .yard) i)
 
-        go : (1024 - u .yard .beacons < ones (u .yard .sources)) ⊎ (ones (u .yard .sources) ≤ 1024 - u .yard .beacons) → spentFrom ≤ u .yard .beacons
-        go (inl l) = omega (arith, eight)
-        go (inr l) = absurd (n (rw (← (r .1)) (rw (eq-eqb (length (u .air)) 65536 (so .whole), le-ltb (1024 - u .yard .beacons) (ones (u .yard .sources)) l))))
+        go : (sourceSpent (u .yard) ≡ true) ⊎ (sourceSpent (u .yard) ≡ false) → SomeSpent u
+        go (inl e) =
+            let q = some-which test 8 e in
+            (q .0, leb-true 128 (beaconsAt (u .yard) (q .0)) (and-parts (hasLane (u .yard .sources) (q .0)) (spent (beaconsAt (u .yard) (q .0))) (q .2) .1))
+        go (inr e) = absurd (n (rw (← (r .1)) (rw (eq-eqb (length (u .air)) 65536 (so .whole), e))))
 
   -- ---- an air of another length
 

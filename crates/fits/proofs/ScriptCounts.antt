@@ -1,6 +1,6 @@
 -- What all lines of a script print and send, compared with its bytes. Assumes nothing.
 use Prim.Native.Nat.{ℕ, zero, suc, _+_, _*_, _<_, _≤_, min}
-use mathlib.Core.Path.{_≡_, refl}
+use mathlib.Core.Path.{_≡_, refl, ap}
 use mathlib.Core.List.{List, [], _∷_, _++_}
 use mathlib.Core.Logic.{_⊎_, inl, inr, _≢_}
 use native.Mathlib.Omega.{arith}
@@ -8,6 +8,7 @@ use lib.ListN.{length, length-append}
 use Rattle.lines.specs.declared.Line.{Line}
 use Rattle.lines.specs.declared.Line.the-variants.{Yard, Order, Hear, Beacon, Roll, Refused}
 use Rattle.lines.specs.Lines.{lineAt, nextOf, linesFrom}
+use Rattle.state.specs.Yards.{beaconsAt}
 use Rattle.yard.specs.Worlds.{World, order, hear, beacon}
 use Rattle.roll.specs.RollCall.{rollRefusal}
 use Rattle.roll.specs.Runs.{Step, one, roll, answer, step, run, sent}
@@ -19,32 +20,32 @@ use Rattle.written.proofs.LineLists.{lines-one, lines-none}
 use Rattle.fits.proofs.TextLengths.{printed}
 use Rattle.fits.proofs.ItemLengths.{itemsMost, most-append}
 use Rattle.fits.proofs.LineLengths.{least, reaches}
-use Rattle.fits.proofs.LineCounts.{Counted, spentFrom, UnlessSpent, line-counted, line-unless-spent}
+use Rattle.fits.proofs.LineCounts.{Counted, SomeSpent, UnlessSpent, line-counted, line-unless-spent}
 
 -- the orders that lines send, in the order of sending
 unfoldable pub ordersOf : World → List Line → List runs.Order
 ordersOf w [] = []
 ordersOf w (l ∷ ls) = sent w (stepOf l) ++ ordersOf (run w (stepOf l)) ls
 
--- the lines that follow line n, from a place of a script of m bytes on
-pub record AllCounted (w : World) (n at m : ℕ) (ls : List Line) : Type 0 where
+-- the lines that follow line n, from a place of a script of m bytes on; counted are the beacons of lane q
+pub record AllCounted (q : ℕ) (w : World) (n at m : ℕ) (ls : List Line) : Type 0 where
   pub few : length (refusedLines w n ls) ≤ 19 * length ls
-  pub beaconsStay : w .yard .beacons ≤ worldAfter w ls .yard .beacons
-  pub sum : 7 * length (refusedLines w n ls) + 56 * itemsMost (ordersOf w ls) + 14 * worldAfter w ls .yard .beacons + 7 * min (n + length ls) 999 + 18 * at
-      ≤ 18 * m + 559 * length (ordersOf w ls) + 14 * w .yard .beacons + 7 * min n 999
+  pub beaconsStay : beaconsAt (w .yard) q ≤ beaconsAt (worldAfter w ls .yard) q
+  pub sum : 7 * length (refusedLines w n ls) + 56 * itemsMost (ordersOf w ls) + 112 * beaconsAt (worldAfter w ls .yard) q + 7 * min (n + length ls) 999 + 18 * at
+      ≤ 18 * m + 559 * length (ordersOf w ls) + 112 * beaconsAt (w .yard) q + 7 * min n 999
 
 -- as long as beacons are left
 abbrev pub AllUnlessSpent : World → ℕ → ℕ → ℕ → List Line → Type 0
 AllUnlessSpent w n at m ls =
-    (spentFrom ≤ worldAfter w ls .yard .beacons)
+    SomeSpent (worldAfter w ls)
     ⊎ (7 * length (refusedLines w n ls) + 56 * itemsMost (ordersOf w ls) + 12 * at ≤ 12 * m + 648 * length (ordersOf w ls))
 
 -- ---- no lines, and a line more
 
 -- no lines
-none-counted : (w : World) (n at m : ℕ) → at ≤ m → AllCounted w n at m []
+none-counted : (q : ℕ) (w : World) (n at m : ℕ) → at ≤ m → AllCounted q w n at m []
 unfolding refusedLines worldAfter ordersOf itemsMost
-none-counted w n at m h = record { few = omega arith; beaconsStay = omega arith; sum = omega arith }
+none-counted q w n at m h = record { few = omega arith; beaconsStay = omega arith; sum = omega arith }
 
 -- the same as long as beacons are left
 none-unless-spent : (w : World) (n at m : ℕ) → at ≤ m → AllUnlessSpent w n at m []
@@ -75,22 +76,24 @@ module _ (w : World) (n at next m : ℕ) (l : Line) (ls : List Line) (far : at +
   unfolding ordersOf
   orders-more = length-append o (ordersOf v ls)
 
-  after-more : worldAfter w (l ∷ ls) .yard .beacons ≡ worldAfter v ls .yard .beacons
+  after-more : worldAfter w (l ∷ ls) ≡ worldAfter v ls
   unfolding worldAfter
   after-more = refl
 
   -- so the line and those after it
-  more-counted : Counted w v n (length p) (least l) o → AllCounted v (n + 1) next m ls → AllCounted w n at m (l ∷ ls)
-  more-counted c r = record {
-    few = omega (arith, bytes-more, c .few, r .few);
-    beaconsStay = omega (arith, after-more, c .beaconsStay, r .beaconsStay);
-    sum = omega (arith, bytes-more, items-more, orders-more, after-more, c .sum, r .sum);
-  }
+  more-counted : (q : ℕ) → Counted q w v n (length p) (least l) o → AllCounted q v (n + 1) next m ls → AllCounted q w n at m (l ∷ ls)
+  more-counted q c r =
+      let b : beaconsAt (worldAfter w (l ∷ ls) .yard) q ≡ beaconsAt (worldAfter v ls .yard) q = ap (λ (u : World). beaconsAt (u .yard) q) after-more in
+      record {
+        few = omega (arith, bytes-more, c .few, r .few);
+        beaconsStay = omega (arith, b, c .beaconsStay, r .beaconsStay);
+        sum = omega (arith, bytes-more, items-more, orders-more, b, c .sum, r .sum);
+      }
 
   -- the same as long as beacons are left
-  more-unless-spent : UnlessSpent v (length p) (least l) o → AllCounted v (n + 1) next m ls → AllUnlessSpent v (n + 1) next m ls → AllUnlessSpent w n at m (l ∷ ls)
-  more-unless-spent (inl b) a r = inl (omega (arith, after-more, a .beaconsStay))
-  more-unless-spent (inr b) a (inl c) = inl (omega (arith, after-more))
+  more-unless-spent : UnlessSpent v (length p) (least l) o → ((q : ℕ) → AllCounted q v (n + 1) next m ls) → AllUnlessSpent v (n + 1) next m ls → AllUnlessSpent w n at m (l ∷ ls)
+  more-unless-spent (inl b) a r = inl (b .0, rw after-more (omega (arith, b .1, a (b .0) .beaconsStay)))
+  more-unless-spent (inr b) a (inl c) = inl (c .0, rw after-more (c .1))
   more-unless-spent (inr b) a (inr c) = inr (omega (arith, bytes-more, items-more, orders-more))
 
 -- ---- the lines of a script
@@ -128,27 +131,27 @@ module _ (s : List ℕ) (short : length s ≤ 48000)
   then w at = run w (stepOf (lineAt s at))
 
   -- the line at a place, with what holds of those after it
-  step-counted : (w : World) (n at k : ℕ) → Keep w → at ≤ length s → Low n at
-      → (at < length s → AllCounted (then w at) (n + 1) (nextOf s (lineAt s at)) (length s) (rest at k))
-      → AllCounted w n at (length s) (linesFrom s at (suc k))
-  step-counted w n at k g h low ih = go (below-or-not at (length s))
+  step-counted : (q : ℕ) (w : World) (n at k : ℕ) → Keep w → at ≤ length s → Low n at
+      → (at < length s → AllCounted q (then w at) (n + 1) (nextOf s (lineAt s at)) (length s) (rest at k))
+      → AllCounted q w n at (length s) (linesFrom s at (suc k))
+  step-counted q w n at k g h low ih = go (below-or-not at (length s))
     where
-      go : (at < length s) ⊎ (length s ≤ at) → AllCounted w n at (length s) (linesFrom s at (suc k))
+      go : (at < length s) ⊎ (length s ≤ at) → AllCounted q w n at (length s) (linesFrom s at (suc k))
       go (inl l) = rw (lines-one s at k l)
-          (more-counted w n at (nextOf s (lineAt s at)) (length s) (lineAt s at) (rest at k) (reaches s at l .far)
-          (line-counted w n (omega (arith, low l)) (small w g) (lineAt s at)) (ih l))
-      go (inr l) = rw (lines-none s at (suc k) l) (none-counted w n at (length s) h)
+          (more-counted w n at (nextOf s (lineAt s at)) (length s) (lineAt s at) (rest at k) (reaches s at l .far) q
+          (line-counted w n (omega (arith, low l)) (small w g) q (lineAt s at)) (ih l))
+      go (inr l) = rw (lines-none s at (suc k) l) (none-counted q w n at (length s) h)
 
   -- all lines from a place on
-  pub lines-counted : (k : ℕ) (w : World) (n at : ℕ) → Keep w → at ≤ length s → Low n at → AllCounted w n at (length s) (linesFrom s at k)
+  pub lines-counted : (q k : ℕ) (w : World) (n at : ℕ) → Keep w → at ≤ length s → Low n at → AllCounted q w n at (length s) (linesFrom s at k)
   unfolding linesFrom
-  lines-counted zero w n at g h low = none-counted w n at (length s) h
-  lines-counted (suc k) w n at g h low = step-counted w n at k g h low
-      (λ l. lines-counted k (then w at) (n + 1) (nextOf s (lineAt s at)) (keep-line w g (lineAt s at)) (reaches s at l .inside) (low-next n at l low))
+  lines-counted q zero w n at g h low = none-counted q w n at (length s) h
+  lines-counted q (suc k) w n at g h low = step-counted q w n at k g h low
+      (λ l. lines-counted q k (then w at) (n + 1) (nextOf s (lineAt s at)) (keep-line w g (lineAt s at)) (reaches s at l .inside) (low-next n at l low))
 
   -- ---- as long as beacons are left
 
-  module _ (spent : (w : World) → Keep w → rollRefusal w ≢ 0 → spentFrom ≤ w .yard .beacons) where
+  module _ (spent : (w : World) → Keep w → rollRefusal w ≢ 0 → SomeSpent w) where
     -- the line at a place, with what holds of those after it
     step-unless-spent : (w : World) (n at k : ℕ) → Keep w → at ≤ length s → Low n at
         → (at < length s → AllUnlessSpent (then w at) (n + 1) (nextOf s (lineAt s at)) (length s) (rest at k))
@@ -159,7 +162,7 @@ module _ (s : List ℕ) (short : length s ≤ 48000)
         go (inl l) = rw (lines-one s at k l)
             (more-unless-spent w n at (nextOf s (lineAt s at)) (length s) (lineAt s at) (rest at k) (reaches s at l .far)
             (line-unless-spent w n (omega (arith, low l)) (small w g) (spent w g) (lineAt s at))
-            (lines-counted k (then w at) (n + 1) (nextOf s (lineAt s at)) (keep-line w g (lineAt s at)) (reaches s at l .inside) (low-next n at l low))
+            (λ q. lines-counted q k (then w at) (n + 1) (nextOf s (lineAt s at)) (keep-line w g (lineAt s at)) (reaches s at l .inside) (low-next n at l low))
             (ih l))
         go (inr l) = rw (lines-none s at (suc k) l) (none-unless-spent w n at (length s) h)
 

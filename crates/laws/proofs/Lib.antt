@@ -13,3 +13,4 @@ pub mod Hearable
 pub mod ValidSteps
 pub mod StepLaws
 pub mod Broadcasts
+pub mod LaneCounts

@@ -80,6 +80,11 @@ zero-of n e = eqb-true n 0 (not-false (eqb n 0) e)
 pub above-zero : (n : ℕ) → eqb n 0 ≡ false → 0 < n
 above-zero n e = let h : n ≢ 0 = eqb-false n 0 e in omega arith
 
+-- what holds of both holds of either
+pub by-test : {A : Type 0} (P : A → Type 0) (b : Bool) (x y : A) → P x → P y → P (cond b x y)
+by-test P true x y p q = p
+by-test P false x y p q = q
+
 -- no test below n holds: at each number
 pub none-each : (test : ℕ → Bool) (n : ℕ) → anyBelow test n ≡ false → (i : ℕ) → i < n → test i ≡ false
 unfolding anyBelow

@@ -32,9 +32,9 @@ pub record First (air : ℕ → Frame) (c i n k : ℕ) : Type 0 where
 
 -- each order taken and each beacon is a frame; no clock is above the number of orders taken; `first` is what it is called
 pub record AirOk (Y : Yard) : Type 0 where
-  pub framesCount : Y .frames ≡ total (Y .posts) + Y .beacons
+  pub framesCount : Y .frames ≡ total (Y .posts) + sumBelow 8 (Y .beacons)
   pub clocksUnder : (i : ℕ) → Y .posts i .clock ≤ total (Y .posts)
-  pub beaconsAtMost : Y .beacons ≤ 1024
+  pub beaconsAtMost : (i : ℕ) → Y .beacons i ≤ 128
   pub firstFrames : (i n : ℕ) → 0 < n → n ≤ Y .posts i .own → First (Y .air) (Y .frames) i n (Y .first i n)
 
 -- a first frame stays it as frames are added
@@ -77,7 +77,7 @@ total-bound R Y y = omega (arith, sum-bound (λ p. sumBelow 8 (Y .posts p .last)
 
 -- so there are at most 2,048 frames
 pub frames-bound : (R : Roles) (Y : Yard) → YardOk R Y → AirOk Y → Y .frames ≤ 2048
-frames-bound R Y y a = omega (arith, a .framesCount, a .beaconsAtMost, total-bound R Y y)
+frames-bound R Y y a = omega (arith, a .framesCount, sum-bound (Y .beacons) 8 128 (a .beaconsAtMost), total-bound R Y y)
 
 -- no clock is above 1,024
 pub clock-bound : (R : Roles) (Y : Yard) → YardOk R Y → AirOk Y → (i : ℕ) → Y .posts i .clock ≤ 1024
@@ -201,14 +201,20 @@ hearing-air R Y p f a = record {
     same = total-same (Y .posts) p D refl
 
 -- beacon
-beacon-air : (R : Roles) (Y : Yard) (p : ℕ) → Y .beacons < 1024 → AirOk Y → AirOk (beaconDone R Y p)
-beacon-air R Y p l a = record {
-  framesCount = omega (arith, a .framesCount);
+beacon-air : (R : Roles) (Y : Yard) (p : ℕ) → p < 8 → Y .beacons p < 128 → AirOk Y → AirOk (beaconDone R Y p)
+beacon-air R Y p small l a = record {
+  framesCount = omega (arith, a .framesCount, more);
   clocksUnder = a .clocksUnder;
-  beaconsAtMost = l;
+  beaconsAtMost = λ i. upd-case (λ n. n ≤ 128) (Y .beacons) p (suc (Y .beacons p)) i (λ q. l) (λ q. a .beaconsAtMost i);
   firstFrames = λ i n b m. first-later (Y .air) (beaconDone R Y p .air) (Y .frames) (suc (Y .frames)) i n (Y .first i n) (a .firstFrames i n b m)
       (omega arith) (older-frames Y (entriesFrame true p noOrder (Y .posts p)));
 }
+  where
+    c : ℕ
+    c = suc (Y .beacons p)
+
+    more : sumBelow 8 (upd (Y .beacons) p c) ≡ suc (sumBelow 8 (Y .beacons))
+    more = sum-more (Y .beacons) (upd (Y .beacons) p c) 8 p small (upd-other (Y .beacons) p c) (upd-same (Y .beacons) p c)
 
 module _ (R : Roles) (ro : RolesOk R) where
   -- a step, refused or not
@@ -220,7 +226,7 @@ module _ (R : Roles) (ro : RolesOk R) where
       heard e = let q = hear-pass R Y p k e in
           taken-or-not AirOk R Y p (Y .air k)
           (λ n. taking-air R ro Y p (Y .air k) (q .0) (y .framesOk k (q .2)) n y a) (λ n. hearing-air R Y p (Y .air k) a)
-  step-air Y (beacon p) y a = beacon-or-refused R Y AirOk p (λ e. beacon-air R Y p (beacon-pass R Y p e .2) a) a
+  step-air Y (beacon p) y a = beacon-or-refused R Y AirOk p (λ e. beacon-air R Y p (beacon-pass R Y p e .0) (beacon-pass R Y p e .2) a) a
 
   -- a list of them
   pub run-air : (Y : Yard) (l : List Single) → YardOk R Y → AirOk Y → AirOk (run R Y l)
@@ -234,6 +240,6 @@ unfolding fresh freshPost total sumBelow
 fresh-air air = record {
   framesCount = refl;
   clocksUnder = λ i. omega arith;
-  beaconsAtMost = omega arith;
+  beaconsAtMost = λ i. omega arith;
   firstFrames = λ i n c d. absurd (omega arith);
 }

@@ -37,7 +37,7 @@ stay R Y y = record {
 -- post p changes to Q and delivers, the air becomes `air`: what is to be shown of Q and of the frames
 pub changed : (R : Roles) → RolesOk R → (Y : Yard) (p : ℕ) (Q : Post) → YardOk R Y → Grows p (Y .posts p) Q → SelfOk R p Q
     → Knows R (upd (Y .posts) p (deliver R p Q)) Q → LogOk Q → Y .posts p .log ≡ Q .log → ((i : ℕ) → Y .posts p .last i ≤ Q .last i)
-    → (air : ℕ → Frame) (c b : ℕ) (first : ℕ → ℕ → ℕ) → Y .frames ≤ c → ((k : ℕ) → k < Y .frames → air k ≡ Y .air k)
+    → (air : ℕ → Frame) (c : ℕ) (b : ℕ → ℕ) (first : ℕ → ℕ → ℕ) → Y .frames ≤ c → ((k : ℕ) → k < Y .frames → air k ≡ Y .air k)
     → ((i n : ℕ) → 0 < n → n ≤ Y .posts i .own → first i n ≡ Y .first i n)
     → ((k : ℕ) → k < c → FrameOk R (upd (Y .posts) p (deliver R p Q)) (air k))
     → Next R Y (record { posts = upd (Y .posts) p (deliver R p Q); air = air; frames = c; beacons = b; first = first })

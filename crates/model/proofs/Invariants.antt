@@ -226,7 +226,7 @@ grew W p Q g = record {
 
 -- a yard whose post p became Q: what is to be shown of Q and of the frames
 pub yard-posts : (R : Roles) (Y : Yard) (p : ℕ) (Q : Post) → YardOk R Y → Grows p (Y .posts p) Q
-    → SelfOk R p Q → PostOk R (upd (Y .posts) p Q) p Q → (a : ℕ → Frame) (c b : ℕ) (first : ℕ → ℕ → ℕ)
+    → SelfOk R p Q → PostOk R (upd (Y .posts) p Q) p Q → (a : ℕ → Frame) (c : ℕ) (b : ℕ → ℕ) (first : ℕ → ℕ → ℕ)
     → ((k : ℕ) → k < c → FrameOk R (upd (Y .posts) p Q) (a k))
     → YardOk R (record { posts = upd (Y .posts) p Q; air = a; frames = c; beacons = b; first = first })
 yard-posts R Y p Q y g s o a c b first fr = record {

@@ -4,6 +4,7 @@ use mathlib.Core.List.{List, [], _∷_, _++_}
 use mathlib.Core.Bool.{Bool, true, false, cond, _&&_, _||_, not}
 use Prim.Native.Nat.{ℕ, zero, suc, _+_, max}
 use lib.Dec.{ltb, leb, eqb}
+use Rattle.state.specs.Yards.{spent}
 use Rattle.yard.specs.Worlds.{Single, order, hear, beacon}
 use Rattle.roll.specs.Runs.{Order}
 use Rattle.roll.specs.Logs.{inOrder}
@@ -34,12 +35,12 @@ pub record Roles : Type 0 where
   pub dest : ℕ → Bool
   pub present : ℕ → Bool
 
--- `first` is the number of each order's first frame
+-- `beacons` are those sent by each lane, `first` is the number of each order's first frame
 pub record Yard : Type 0 where
   pub posts : ℕ → Post
   pub air : ℕ → Frame
   pub frames : ℕ
-  pub beacons : ℕ
+  pub beacons : ℕ → ℕ
   pub first : ℕ → ℕ → ℕ
 
 -- ---- the newest entry of a lane
@@ -213,7 +214,7 @@ module _ (R : Roles) where
   beaconRefused Y p =
       cond (ltb 7 p) 4
       (cond (not (R .present p)) 21
-      (cond (leb 1024 (Y .beacons)) 27
+      (cond (spent (Y .beacons p)) 27
       0))
 
   -- the steps, not refused
@@ -233,7 +234,7 @@ module _ (R : Roles) where
     posts = Y .posts;
     air = upd (Y .air) (Y .frames) (entriesFrame true p noOrder (Y .posts p));
     frames = suc (Y .frames);
-    beacons = suc (Y .beacons);
+    beacons = upd (Y .beacons) p (suc (Y .beacons p));
     first = Y .first;
   }
 
@@ -270,7 +271,7 @@ freshPost = record { clock = 0; own = 0; last = λ i. 0; table = λ i n. 0; stam
 
 -- whatever the air holds, none of it is a frame yet
 unfoldable pub fresh : (ℕ → Frame) → Yard
-fresh air = record { posts = λ p. freshPost; air = air; frames = 0; beacons = 0; first = λ i n. 0 }
+fresh air = record { posts = λ p. freshPost; air = air; frames = 0; beacons = λ p. 0; first = λ i n. 0 }
 
 -- ---- the roll call
 

@@ -1,33 +1,37 @@
 -- Lists of steps, roll calls among them: what holds after every such list, and so of every log. Assumes nothing.
 use mathlib.Core.Path.{_≡_, refl, sym, _∙_}
 use mathlib.Core.List.{List, [], _∷_, _++_, append-nil, append-assoc}
-use mathlib.Core.Bool.{true, cond}
+use mathlib.Core.Bool.{true, cond, _&&_}
 use Prim.Native.Nat.{ℕ, _+_, _-_, _*_, _≤_, _<_}
 use native.Mathlib.Omega.{arith}
-use lib.Dec.{ltb, eqb}
+use lib.Dec.{eqb}
 use lib.ListN.{length, length-append}
-use borrow.Author.Tests.{eq-eqb, ltb-false}
+use borrow.Author.Tests.{eq-eqb, leb-false}
+use Rattle.frame.specs.Lanes.{anyBelow}
 use Rattle.frame.proofs.Laws.{passed}
+use Rattle.laws.proofs.TestLaws.{and-second, none-each}
 use Rattle.laws.proofs.ListLaws.{Begins, begins-itself, begins-on}
+use Rattle.state.specs.Yards.{spent}
 use Rattle.yard.specs.Worlds.{Single}
 use Rattle.roll.specs.Runs.{Order, Step, one, roll}
 use Rattle.roll.specs.Logs.{inOrder}
 use Rattle.model.proofs.Functions.{sumBelow}
 use Rattle.model.proofs.Model.{Frame, Roles, Yard, step, sentBy, run, sent, freshPost, fresh, sourcesBelow, postsBelow, rollSteps}
-use Rattle.model.proofs.Invariants.{RolesOk, YardOk}
+use Rattle.model.proofs.Invariants.{RolesOk, source-below, YardOk}
 use Rattle.model.proofs.Steps.{if-zero, step-ok, run-ok, run-log}
 use Rattle.model.proofs.SentOrders.{Lists, step-lists, run-lists, log-begins, fresh-ok, fresh-lists}
 use Rattle.model.proofs.Air.{AirOk, frames-bound, clock-bound, step-air, run-air, fresh-air}
 use Rattle.model.proofs.Counts.{orders, roll-count, step-orders, run-orders}
 use Rattle.model.proofs.RollLists.{roll-sends-none}
+use Rattle.model.proofs.RollBeacons.{Left}
 use Rattle.model.proofs.RollCall.{roll-logs}
 
 -- ---- a step of a list, and lists of them, as in `Runs` of the crate `roll`
 
 module _ (R : Roles) where
-  -- 27, "for a roll call fewer than S left"
+  -- 27, "when some source has none left"
   unfoldable pub rollRefused : Yard → ℕ
-  rollRefused Y = cond (ltb (1024 - Y .beacons) (sourcesBelow R 8)) 27 0
+  rollRefused Y = cond (anyBelow (λ (i : ℕ). R .source i && spent (Y .beacons i)) 8) 27 0
 
   -- what a roll call answers
   unfoldable pub rollAnswer : Yard → ℕ
@@ -66,12 +70,13 @@ module _ (R : Roles) where
   sent-append Y (s ∷ l) m =
       rw (sent-append (move Y s) l m) (sym (append-assoc (sentIn Y s) (allSent (move Y s) l) (allSent (moves (move Y s) l) m)))
 
-  -- a roll call that is not refused has room for its beacons; `beacons` at most 1,024 is needed, as 1024 - beacons stops at 0
-  pub roll-room : (Y : Yard) → Y .beacons ≤ 1024 → rollRefused Y ≡ 0 → Y .beacons + sourcesBelow R 8 ≤ 1024
+  -- where a roll call is not refused every source has a beacon left
+  pub roll-left : (Y : Yard) → RolesOk R → rollRefused Y ≡ 0 → Left R Y
   unfolding rollRefused
-  roll-room Y b e =
-      let p = passed (ltb (1024 - Y .beacons) (sourcesBelow R 8)) 27 0 (omega arith) e in
-      omega (arith, ltb-false (1024 - Y .beacons) (sourcesBelow R 8) (p .0))
+  roll-left Y ro e i s =
+      let p = passed (anyBelow (λ (i : ℕ). R .source i && spent (Y .beacons i)) 8) 27 0 (omega arith) e in
+      let q = none-each (λ (i : ℕ). R .source i && spent (Y .beacons i)) 8 (p .0) i (source-below R ro i s) in
+      leb-false 128 (Y .beacons i) (and-second (R .source i) (spent (Y .beacons i)) q s)
 
 -- ---- what holds after every list of steps
 
@@ -188,7 +193,7 @@ module _ (R : Roles) (ro : RolesOk R) where
       → move R Y roll .posts p .log ≡ inOrder S
   unfolding move
   roll-whole Y S g e p d = rw (eq-eqb (rollRefused R Y) 0 e)
-      (roll-logs R ro Y S (g .yardOk) (g .airOk) (g .sentListed) (roll-room R Y (g .airOk .beaconsAtMost) e) p d)
+      (roll-logs R ro Y S (g .yardOk) (g .airOk) (g .sentListed) (roll-left R Y ro e) p d)
 
   -- and its answer, with N posts, M orders sent and S sources: (N − 1) × M + N × S
   pub roll-answer : (Y : Yard) (S : List Order) → Good R ro Y S → 0 < postsBelow R 8

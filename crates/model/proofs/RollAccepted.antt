@@ -15,7 +15,7 @@ use Rattle.model.proofs.Steps.{hear-pass, hear-fine}
 use Rattle.model.proofs.Air.{First, AirOk}
 use Rattle.model.proofs.RollLists.{Each, each-append}
 use Rattle.model.proofs.RollHears.{Since, since-itself, since-step}
-use Rattle.model.proofs.RollBeacons.{Beaconed, beacon-has-room, beaconed}
+use Rattle.model.proofs.RollBeacons.{Left, Beaconed, beacon-passes, beaconed}
 use Rattle.model.proofs.BeaconHears.{OnlyBeacons, beacon-hearable}
 use Rattle.model.proofs.RollCall.{Y₁, Y₂, since₁, since₂, beacons₁, sent₂, still₂}
 
@@ -99,18 +99,18 @@ module _ (R : Roles) (ro : RolesOk R) where
 
   -- ---- the beacons
 
-  -- those of the sources below k, where there is room for all
-  beacons-accepted : (Y : Yard) → YardOk R Y → Y .beacons + sourcesBelow R 8 ≤ 1024 → (k : ℕ) → k ≤ 8 → Accepted R Y (beaconsSent R k)
+  -- those of the sources below k, where each source has one left
+  beacons-accepted : (Y : Yard) → YardOk R Y → Left R Y → (k : ℕ) → k ≤ 8 → Accepted R Y (beaconsSent R k)
   unfolding beaconsSent
-  beacons-accepted Y y room zero l = tt
-  beacons-accepted Y y room (suc k) l =
-      accepted-append R Y (beaconsSent R k) (cond (R .source k) (beacon k ∷ []) []) (beacons-accepted Y y room k (omega arith)) (go (R .source k) refl)
+  beacons-accepted Y y left zero l = tt
+  beacons-accepted Y y left (suc k) l =
+      accepted-append R Y (beaconsSent R k) (cond (R .source k) (beacon k ∷ []) []) (beacons-accepted Y y left k (omega arith)) (go (R .source k) refl)
     where
       X : Yard
       X = run R Y (beaconsSent R k)
 
       go : (b : Bool) → R .source k ≡ b → Accepted R X (cond b (beacon k ∷ []) [])
-      go true b = (beacon-has-room R ro Y y room X k l b (beaconed R ro Y y room k (omega arith)), tt)
+      go true b = (beacon-passes R ro Y y left X k l b (beaconed R ro Y y left k (omega arith)), tt)
       go false b = tt
 
   -- ---- the hearings of the beacons, which are on the air in Z
@@ -141,8 +141,8 @@ module _ (R : Roles) (ro : RolesOk R) where
   -- ---- the whole call
 
   module _ (Y : Yard) (y : YardOk R Y) (a : AirOk Y) where
-    -- where there is room for the beacons, every step of the roll call is accepted
-    pub roll-accepted : Y .beacons + sourcesBelow R 8 ≤ 1024 → Accepted R Y (rollSteps R Y)
+    -- where every source has a beacon left, every step of the roll call is accepted
+    pub roll-accepted : Left R Y → Accepted R Y (rollSteps R Y)
     unfolding rollSteps Y₁ Y₂
     roll-accepted enough =
         accepted-append R Y (postsHear R Y 8) (beaconsSent R 8 ++ postsHearBeacons R (W .frames) 8) orders-heard
@@ -156,16 +156,16 @@ module _ (R : Roles) (ro : RolesOk R) where
         X : Yard
         X = Y₂ R ro Y y a
 
-        room : W .beacons + sourcesBelow R 8 ≤ 1024
-        room = omega (arith, beacons₁ R ro Y y a)
+        left : Left R W
+        left = rw (beacons₁ R ro Y y a) enough
 
         orders-heard : Accepted R Y (postsHear R Y 8)
         orders-heard = hears-accepted Y Y (postsHear R Y 8) (posts-hearable Y a 8) (since-itself R ro Y y a)
 
         beacons-sent : Accepted R W (beaconsSent R 8)
-        beacons-sent = beacons-accepted W (since₁ R ro Y y a .sinceOk) room 8 (omega arith)
+        beacons-sent = beacons-accepted W (since₁ R ro Y y a .sinceOk) left 8 (omega arith)
 
         beacons-heard : Accepted R X (postsHearBeacons R (W .frames) 8)
         beacons-heard = hears-accepted X X (postsHearBeacons R (W .frames) 8)
-            (posts-beacons-hearable W X (sent₂ R ro Y y a room) (still₂ R ro Y y a room) 8)
+            (posts-beacons-hearable W X (sent₂ R ro Y y a left) (still₂ R ro Y y a left) 8)
             (since-itself R ro X (since₂ R ro Y y a .sinceOk) (since₂ R ro Y y a .sinceAir))

@@ -1,5 +1,5 @@
 -- The roll call's beacons: each source sends one, and where they stand on the air. Assumes nothing.
-use mathlib.Core.Path.{_≡_, refl}
+use mathlib.Core.Path.{_≡_, refl, _∙_}
 use mathlib.Core.List.{[], _∷_}
 use mathlib.Core.Logic.{_⊎_, inl, inr, _≢_}
 use mathlib.Core.Bool.{Bool, true, false, cond}
@@ -34,11 +34,15 @@ module _ (R : Roles) where
   unfolding sourcesBelow
   sources-skip i b = rw b (omega arith)
 
+-- every source has a beacon left
+abbrev pub Left : Roles → Yard → Type 0
+Left R Y = (i : ℕ) → R .source i ≡ true → Y .beacons i < 128
+
 -- in yard Y, the sources below k have sent their beacons, and nothing else was done: it is Z now
 pub record Beaconed (R : Roles) (Y Z : Yard) (k : ℕ) : Type 0 where
   pub postsSame : Z .posts ≡ Y .posts
   pub framesThen : Z .frames ≡ Y .frames + sourcesBelow R k
-  pub beaconsThen : Z .beacons ≡ Y .beacons + sourcesBelow R k
+  pub othersLeft : (i : ℕ) → k ≤ i → Z .beacons i ≡ Y .beacons i
   pub beaconAt : (i : ℕ) → i < k → R .source i ≡ true → OwnBeacon (Y .posts) i (Z .air (Y .frames + sourcesBelow R i))
 
 module _ (R : Roles) (ro : RolesOk R) (Y : Yard) (y : YardOk R Y) where
@@ -47,7 +51,7 @@ module _ (R : Roles) (ro : RolesOk R) (Y : Yard) (y : YardOk R Y) where
   beacon-sent Z k b h = record {
     postsSame = h .postsSame;
     framesThen = omega (arith, h .framesThen, sources-suc R k b);
-    beaconsThen = omega (arith, h .beaconsThen, sources-suc R k b);
+    othersLeft = λ i l. upd-other (Z .beacons) k (suc (Z .beacons k)) i (omega arith) ∙ h .othersLeft i (omega arith);
     beaconAt = λ i l s. go i l s (same-or-not i k);
   }
     where
@@ -67,7 +71,7 @@ module _ (R : Roles) (ro : RolesOk R) (Y : Yard) (y : YardOk R Y) where
   no-beacon Z k b h = record {
     postsSame = h .postsSame;
     framesThen = rw (sources-skip R k b) (h .framesThen);
-    beaconsThen = rw (sources-skip R k b) (h .beaconsThen);
+    othersLeft = λ i l. h .othersLeft i (omega arith);
     beaconAt = λ i l s. h .beaconAt i (below i s (same-or-not i k) l) s;
   }
     where
@@ -75,25 +79,25 @@ module _ (R : Roles) (ro : RolesOk R) (Y : Yard) (y : YardOk R Y) where
       below i s (inl q) l = absurd (not-both (R .source k) (rw q at s) b)
       below i s (inr q) l = omega arith
 
-  -- where there is room for all, the next source's beacon is not refused
-  pub beacon-has-room : Y .beacons + sourcesBelow R 8 ≤ 1024 → (Z : Yard) (k : ℕ) → k < 8 → R .source k ≡ true → Beaconed R Y Z k → beaconRefused R Z k ≡ 0
-  beacon-has-room room Z k l b h =
-      beacon-fine R Z k l (ro .sourcesPresent k b) (omega (arith, h .beaconsThen, sources-suc R k b, sources-le R (suc k) 8 l))
+  -- where each has one left, the next source's beacon is not refused
+  pub beacon-passes : Left R Y → (Z : Yard) (k : ℕ) → k < 8 → R .source k ≡ true → Beaconed R Y Z k → beaconRefused R Z k ≡ 0
+  beacon-passes left Z k l b h =
+      beacon-fine R Z k l (ro .sourcesPresent k b) (rw (h .othersLeft k (omega arith)) (left k b))
 
   -- so each source sends its beacon
-  pub beaconed : Y .beacons + sourcesBelow R 8 ≤ 1024 → (k : ℕ) → k ≤ 8 → Beaconed R Y (run R Y (beaconsSent R k)) k
+  pub beaconed : Left R Y → (k : ℕ) → k ≤ 8 → Beaconed R Y (run R Y (beaconsSent R k)) k
   unfolding beaconsSent run
-  beaconed room zero l = record {
+  beaconed left zero l = record {
     postsSame = refl;
     framesThen = unfold sourcesBelow in omega arith;
-    beaconsThen = unfold sourcesBelow in omega arith;
+    othersLeft = λ i m. refl;
     beaconAt = λ i m. absurd (omega arith);
   }
-  beaconed room (suc k) l = rw run-append (go (R .source k) refl (beaconed room k (omega arith)))
+  beaconed left (suc k) l = rw run-append (go (R .source k) refl (beaconed left k (omega arith)))
     where
       X : Yard
       X = run R Y (beaconsSent R k)
 
       go : (b : Bool) → R .source k ≡ b → Beaconed R Y X k → Beaconed R Y (run R X (cond b (beacon k ∷ []) [])) (suc k)
-      go true b h = rw (step-beacon R X k (beacon-has-room room X k l b h)) (beacon-sent X k b h)
+      go true b h = rw (step-beacon R X k (beacon-passes left X k l b h)) (beacon-sent X k b h)
       go false b h = no-beacon X k b h

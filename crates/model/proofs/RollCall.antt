@@ -10,7 +10,7 @@ use Rattle.laws.proofs.ListLaws.{Mem, mem-left, Begins}
 use Rattle.roll.specs.Runs.{Order}
 use Rattle.roll.specs.Logs.{inOrder}
 use Rattle.model.proofs.Functions.{le-or-not}
-use Rattle.model.proofs.Model.{Post, Roles, Yard, orderOf, ready, run, postsHear, beaconsSent, sourcesBelow, postsHearBeacons, rollSteps}
+use Rattle.model.proofs.Model.{Post, Roles, Yard, orderOf, ready, run, postsHear, beaconsSent, postsHearBeacons, rollSteps}
 use Rattle.model.proofs.OrderLists.{in-order-mem, in-order-rises, unique}
 use Rattle.model.proofs.Invariants.{RolesOk, source-below, Posts, stampOf, Sent, Knows, YardOk}
 use Rattle.model.proofs.Delivery.{le-ready}
@@ -19,7 +19,7 @@ use Rattle.model.proofs.SentOrders.{sent-eq, Lists, run-lists, log-begi
 use Rattle.model.proofs.Air.{AirOk}
 use Rattle.model.proofs.RollLists.{hears-posts, posts-no-order, beacons-no-order, roll-sends-none}
 use Rattle.model.proofs.RollHears.{Since, since-itself, since-run, hears-beacons, posts-heard}
-use Rattle.model.proofs.RollBeacons.{Beaconed, beaconed}
+use Rattle.model.proofs.RollBeacons.{Left, Beaconed, beaconed}
 use Rattle.model.proofs.BeaconHears.{OnlyBeacons, only-itself, posts-only, posts-heard-beacons}
 
 module _ (R : Roles) (ro : RolesOk R) where
@@ -85,13 +85,13 @@ module _ (R : Roles) (ro : RolesOk R) where
         let m : n ≤ Y₁ .posts i .last j = omega (arith, full i j (ro .sourcesPresent i b)) in
         omega (arith, since₁ .sinceOk .postsOk i .knows .stampsTrue j n c m, since₁ .sinceOk .selves i .clockSeen b j n c m)
 
-    -- ---- after the hearings of the beacons, where there is room for them
+    -- ---- after the hearings of the beacons, where every source has one left
 
-    module _ (room : Y₁ .beacons + sourcesBelow R 8 ≤ 1024) where
+    module _ (left : Left R Y₁) where
       -- each source sent its beacon
       pub sent₂ : Beaconed R Y₁ Y₂ 8
       unfolding Y₂
-      sent₂ = beaconed R ro Y₁ (since₁ .sinceOk) room 8 (omega arith)
+      sent₂ = beaconed R ro Y₁ (since₁ .sinceOk) left 8 (omega arith)
 
       -- there nothing was heard since
       pub still₂ : OnlyBeacons R Y₂ Y₂
@@ -176,13 +176,13 @@ module _ (R : Roles) (ro : RolesOk R) where
 
   -- ---- the whole call
 
-  -- where there is room for the beacons, every destination's log is the list of all orders sent
-  pub roll-logs : (Y : Yard) (S : List Order) → YardOk R Y → AirOk Y → Lists (Y .posts) S → Y .beacons + sourcesBelow R 8 ≤ 1024
+  -- where every source has a beacon left, every destination's log is the list of all orders sent
+  pub roll-logs : (Y : Yard) (S : List Order) → YardOk R Y → AirOk Y → Lists (Y .posts) S → Left R Y
       → (p : ℕ) → R .dest p ≡ true → run R Y (rollSteps R Y) .posts p .log ≡ inOrder S
-  roll-logs Y S y a l enough p d = rw (roll-is Y y a) (log-is Y y a room S lists p d)
+  roll-logs Y S y a l enough p d = rw (roll-is Y y a) (log-is Y y a left S lists p d)
     where
-      room : Y₁ Y y a .beacons + sourcesBelow R 8 ≤ 1024
-      room = omega (arith, beacons₁ Y y a)
+      left : Left R (Y₁ Y y a)
+      left = rw (beacons₁ Y y a) enough
 
       lists : Lists (Y₃ Y y a .posts) S
       lists = rw (← roll-is Y y a, ← append-nil S, ← roll-sends-none R Y) (run-lists R ro Y (rollSteps R Y) y S l)

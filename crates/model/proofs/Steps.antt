@@ -10,6 +10,7 @@ use borrow.Author.Tests.{eqb-true, eqb-false, ne-eqb, leb-false, lt-leb, ltb-fal
 use Rattle.laws.proofs.TestLaws.{not-both}
 use Rattle.laws.proofs.ListLaws.{Begins, begins-itself, begins-on}
 use Rattle.frame.proofs.Laws.{passed}
+use Rattle.state.specs.Yards.{spent}
 use Rattle.yard.specs.Worlds.{Single, order, hear, beacon}
 use Rattle.model.proofs.Model.{Frame, Roles, Yard, entriesFrame, noOrder, orderRefused, hearRefused, beaconRefused, orderDone, beaconDone, hearDone}
 use Rattle.model.proofs.Model.{step, run}
@@ -49,18 +50,18 @@ module _ (R : Roles) (Y : Yard) where
   hear-fine p k l b c n = rw (le-ltb 7 p (omega arith), b, lt-leb (Y .frames) k c, ne-eqb (Y .air k .sender) p n) refl
 
   -- beacon
-  pub beacon-pass : (p : ℕ) → beaconRefused R Y p ≡ 0 → (p < 8) × (R .present p ≡ true) × (Y .beacons < 1024)
+  pub beacon-pass : (p : ℕ) → beaconRefused R Y p ≡ 0 → (p < 8) × (R .present p ≡ true) × (Y .beacons p < 128)
   unfolding beaconRefused
   beacon-pass p e =
       let a = passed (ltb 7 p) 4 _ (omega arith) e in
       let b = passed (not (R .present p)) 21 _ (omega arith) (a .1) in
-      let c = passed (leb 1024 (Y .beacons)) 27 _ (omega arith) (b .1) in
-      (omega (arith, ltb-false 7 p (a .0)), not-false (R .present p) (b .0), leb-false 1024 (Y .beacons) (c .0))
+      let c = passed (spent (Y .beacons p)) 27 _ (omega arith) (b .1) in
+      (omega (arith, ltb-false 7 p (a .0)), not-false (R .present p) (b .0), leb-false 128 (Y .beacons p) (c .0))
 
   -- and the other way round
-  pub beacon-fine : (p : ℕ) → p < 8 → R .present p ≡ true → Y .beacons < 1024 → beaconRefused R Y p ≡ 0
+  pub beacon-fine : (p : ℕ) → p < 8 → R .present p ≡ true → Y .beacons p < 128 → beaconRefused R Y p ≡ 0
   unfolding beaconRefused
-  beacon-fine p l b c = rw (le-ltb 7 p (omega arith), b, lt-leb 1024 (Y .beacons) c) refl
+  beacon-fine p l b c = rw (le-ltb 7 p (omega arith), b, lt-leb 128 (Y .beacons p) c) refl
 
 -- ---- a step, by its refusal
 

@@ -67,11 +67,11 @@ due s air t exit n l u false e q h = absurd (let z : _≡_ {A = ℕ} 0 1 = cc in
 
 -- ---- what the hearings keep stands in the state as it stood
 
-first-in : (s : List ℕ) → length s ≡ 4476 → firstOf (heldIn s) ≡ yardIn s .first
+first-in : (s : List ℕ) → length s ≡ 4483 → firstOf (heldIn s) ≡ yardIn s .first
 unfolding firstOf
 first-in s h = ap firstOf (held-whole s h)
 
-serial-in : (s : List ℕ) → length s ≡ 4476 → (q : ℕ) → serialOf (heldIn s) q ≡ postAt (yardIn s) q .serial .0
+serial-in : (s : List ℕ) → length s ≡ 4483 → (q : ℕ) → serialOf (heldIn s) q ≡ postAt (yardIn s) q .serial .0
 unfolding serialOf
 serial-in s h q = ap (λ (x : Held). serialOf x q) (held-whole s h)
 
@@ -80,15 +80,15 @@ pub sets-in : (s : List ℕ) → (yardIn s .present ≡ getD s 0 0) × (yardIn s
 unfolding yardIn
 sets-in s = (refl, refl)
 
-first-part : (s : List ℕ) → yardIn s .first ≡ part s 4 128
+first-part : (s : List ℕ) → yardIn s .first ≡ part s 11 128
 unfolding yardIn
 first-part s = refl
 
-serial-cell : (s : List ℕ) (q : ℕ) → q < 8 → postAt (yardIn s) q .serial .0 ≡ getD s (132 + 543 * q + 4) 0
+serial-cell : (s : List ℕ) (q : ℕ) → q < 8 → postAt (yardIn s) q .serial .0 ≡ getD s (139 + 543 * q + 4) 0
 unfolding postIn
-serial-cell s q low = rw (at-yard s q low, part-get s (132 + 543 * q) 543 4 (omega arith))
+serial-cell s q low = rw (at-yard s q low, part-get s (139 + 543 * q) 543 4 (omega arith))
 
-module _ (s₀ air₀ s air : List ℕ) (n : ℕ) (l : List Single) (h₀ : length s₀ ≡ 4476) (h : length s ≡ 4476) (e : after n s air ≡ ranIn (hereIn s₀ air₀) l)
+module _ (s₀ air₀ s air : List ℕ) (n : ℕ) (l : List Single) (h₀ : length s₀ ≡ 4483) (h : length s ≡ 4483) (e : after n s air ≡ ranIn (hereIn s₀ air₀) l)
     (k : Same (singlesIn (hereIn s₀ air₀) l .held) (heldIn s₀)) where
   left : heldIn s ≡ singlesIn (hereIn s₀ air₀) l .held
   left = ap (λ (x : Here). x .held) (ran-left (hereIn s₀ air₀) s air n l e)
@@ -101,9 +101,9 @@ module _ (s₀ air₀ s air : List ℕ) (n : ℕ) (l : List Single) (h₀ : leng
 
 -- ---- the hearings of first frames: serial by serial, lane by lane, post by post
 
-pub lane-more : (s₀ air₀ s air t exit : List ℕ) (p q n place k : ℕ) (r : hearings.HearAnswer) → length s₀ ≡ 4476 → length s ≡ 4476
+pub lane-more : (s₀ air₀ s air t exit : List ℕ) (p q n place k : ℕ) (r : hearings.HearAnswer) → length s₀ ≡ 4483 → length s ≡ 4483
     → after n s air ≡ ranIn (hereIn s₀ air₀) (laneHears (yardIn s₀ .first) p q n)
-    → place ≡ orderPlace q (n + 1) → k ≡ getD (part s 4 128) place 0 → after r t exit ≡ hearsIn (heldIn s) air p k
+    → place ≡ orderPlace q (n + 1) → k ≡ getD (part s 11 128) place 0 → after r t exit ≡ hearsIn (heldIn s) air p k
     → after (n + 1) t exit ≡ ranIn (hereIn s₀ air₀) (laneHears (yardIn s₀ .first) p q (n + 1))
 unfolding laneHears
 lane-more s₀ air₀ s air t exit p q n place k r h₀ h e ep ek er =
@@ -116,12 +116,12 @@ lane-more s₀ air₀ s air t exit p q n place k r h₀ h e ep ek er =
 pub lane-own : (s air : List ℕ) (p q : ℕ) → q ≡ p → after {Answer = ℕ} 0 s air ≡ ranIn (hereIn s air) (laneHeard (yardIn s) p q)
 lane-own s air p q e = rw (eq-eqb q p e) (none-ran s air)
 
-pub lane-other : (s air t exit : List ℕ) (p q n i : ℕ) → (q ≡ p → ⊥) → q < 8 → n ≡ getD s (132 + 543 * q + 4) 0 → i ≡ n
+pub lane-other : (s air t exit : List ℕ) (p q n i : ℕ) → (q ≡ p → ⊥) → q < 8 → n ≡ getD s (139 + 543 * q + 4) 0 → i ≡ n
     → after i t exit ≡ ranIn (hereIn s air) (laneHears (yardIn s .first) p q i)
     → after n t exit ≡ ranIn (hereIn s air) (laneHeard (yardIn s) p q)
 lane-other s air t exit p q n i ne low en ei e = rw (ne-eqb q p ne, serial-cell s q low, ← en) (rw ei at e)
 
-pub lanes-more : (s₀ air₀ s air t exit : List ℕ) (n m p q : ℕ) → length s₀ ≡ 4476 → length s ≡ 4476
+pub lanes-more : (s₀ air₀ s air t exit : List ℕ) (n m p q : ℕ) → length s₀ ≡ 4483 → length s ≡ 4483
     → after n s air ≡ ranIn (hereIn s₀ air₀) (lanesHears (yardIn s₀) p q) → after m t exit ≡ ranIn (hereIn s air) (laneHeard (yardIn s) p q)
     → after (n + m) t exit ≡ ranIn (hereIn s₀ air₀) (lanesHears (yardIn s₀) p (q + 1))
 unfolding lanesHears
@@ -131,7 +131,7 @@ lanes-more s₀ air₀ s air t exit n m p q h₀ h e er =
     let g = same-serial s₀ air₀ s air n (lanesHears (yardIn s₀) p q) h₀ h e k q in
     rw (add-one q) (then (hereIn s₀ air₀) s air t exit n m (lanesHears (yardIn s₀) p q) (laneHeard (yardIn s₀) p q) e (rw (f, g) at er))
 
-pub posts-more : (s₀ air₀ s air t exit : List ℕ) (n m present p : ℕ) → length s₀ ≡ 4476 → length s ≡ 4476 → present ≡ yardIn s₀ .present
+pub posts-more : (s₀ air₀ s air t exit : List ℕ) (n m present p : ℕ) → length s₀ ≡ 4483 → length s ≡ 4483 → present ≡ yardIn s₀ .present
     → after n s air ≡ ranIn (hereIn s₀ air₀) (postsHear (yardIn s₀) p)
     → after m t exit ≡ ranIn (hereIn s air) (cond (hasLane present p) (lanesHears (yardIn s) p 8) [])
     → after (n + m) t exit ≡ ranIn (hereIn s₀ air₀) (postsHear (yardIn s₀) (p + 1))

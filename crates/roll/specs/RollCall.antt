@@ -1,14 +1,14 @@
 -- The roll call as the list of single steps that it runs: document 01, "Roll call". Assumes nothing.
-use Prim.Native.Nat.{ℕ, zero, suc, _+_, _-_}
-use mathlib.Core.Bool.{cond, not, _&&_}
+use Prim.Native.Nat.{ℕ, zero, suc, _+_}
+use mathlib.Core.Bool.{Bool, cond, not, _&&_}
 use mathlib.Core.List.{List, [], _∷_, _++_}
-use lib.Dec.{ltb, eqb}
-use lib.Count.{ones}
+use lib.Dec.{eqb}
 use lib.ListN.{length, getD}
+use Rattle.frame.specs.Lanes.{anyBelow}
 use Rattle.air.specs.Air.{badAir}
 use Rattle.cells.specs.Sets.{hasLane}
 use Rattle.cells.specs.Tables.{orderPlace}
-use Rattle.state.specs.Yards.{Yard, postAt}
+use Rattle.state.specs.Yards.{Yard, postAt, beaconsAt, spent}
 use Rattle.yard.specs.Worlds.{World, Single, hear, beacon, singles}
 use Rattle.roll.specs.declared.RollAnswer as calling
 
@@ -64,11 +64,15 @@ rollSteps w =
     let from = singles w hearings .yard .frames in
     hearings ++ (beaconsSent (w .yard .sources) 8 ++ postsHearBeacons (w .yard .present) (w .yard .sources) from 8)
 
--- 13; 27, "for a roll call fewer than S left", S being the count of ones in the set of sources
+-- "some source has none left": only the sources are asked, a *relay* or *dest* may have none left
+unfoldable pub sourceSpent : Yard → Bool
+sourceSpent y = anyBelow (λ (i : ℕ). hasLane (y .sources) i && spent (beaconsAt y i)) 8
+
+-- 13; 27: K2, "A roll call is refused with 27 when some source has none left."
 unfoldable pub rollRefusal : World → ℕ
 rollRefusal w =
     cond (badAir (w .air)) 13
-    (cond (ltb (1024 - w .yard .beacons) (ones (w .yard .sources))) 27
+    (cond (sourceSpent (w .yard)) 27
     0)
 
 -- what a roll call answers, and the yard after it

@@ -4,13 +4,13 @@ use row::SerialCell;
 ghost use mathlib.Core.Path.{_≡_};
 ghost use mathlib.Core.Bool.{cond};
 ghost use mathlib.Core.List.{[], _∷_};
-ghost use Prim.Native.Nat.{_-_, _<_, _≤_};
+ghost use Prim.Native.Nat.{_<_, _≤_};
 ghost use lib.ListN.{getD};
 ghost use Rattle.cells.specs.Sets.{hasLane};
 ghost use Rattle.yard.specs.Worlds.{hear, beacon};
 ghost use Rattle.state.specs.States.{heldIn, yardIn};
 ghost use Rattle.yard.specs.InState.{after, hereIn};
-ghost use Rattle.roll.specs.RollCall.{lanesHears, postsHear, beaconsSent, beaconsHeard, postsHearBeacons};
+ghost use Rattle.roll.specs.RollCall.{sourceSpent, lanesHears, postsHear, beaconsSent, beaconsHeard, postsHearBeacons};
 ghost use Rattle.roll.specs.Calls.{laneHeard, rollStepsIn, ranIn, rollRefusalIn, callsIn};
 ghost use Rattle.roll.specs.Answers.{rollNumber};
 ghost use Rattle.roll.specs.Values.{rollCount, rollCountIn};
@@ -34,28 +34,29 @@ pub fn call(state: &mut [u16], air: &mut [u8]) -> RollAnswer
     if air.len() != air::LENGTH {
         return RollAnswer::Refused(13);
     }
-    let sources = row::get(state, state::SOURCES);
-    let left = beacons_left(row::get(state, state::BEACONS_SENT));
-    if (left as u32) < u16::count_ones(sources) {
+    if source_spent(state) {
         return RollAnswer::Refused(27);
     }
     RollAnswer::Called(run_steps(state, air))
 }
 
-// How many beacons are left to send.
-fn beacons_left(beacons: u16) -> u16
-    ensures { λ r. ⌜ r ≡ 1024 - beacons ⌝ }
+// Some source has no beacon left to send: fewer sources have one than S, by the count of ones.
+fn source_spent(state: &[u16]) -> bool
+    ensures { λ r. ⌜ r ≡ sourceSpent (yardIn (now (state .entry))) ⌝ }
 {
-    if beacons < yard::BEACONS {
-        yard::BEACONS - beacons
-    } else {
-        0
+    let set = row::get(state, state::SOURCES);
+    let mut left = 0u32;
+    for i in 0..8u8 {
+        let sent = row::get_in(state, state::BEACONS_SENT, 8, i as usize);
+        let has_one = cells::has(set, i as u16) & (sent < yard::BEACONS);
+        left = left + (cells::pick(has_one, 1, 0) as u32);
     }
+    left < u16::count_ones(set % 256)
 }
 
 // The call's single steps, one after another; each part answers how many it ran.
 fn run_steps(state: &mut [u16], air: &mut [u8]) -> u32
-    requires { do ⌜ (← ⟦state.len()⟧) ≡ 4476 ⌝ }
+    requires { do ⌜ (← ⟦state.len()⟧) ≡ 4483 ⌝ }
     ensures { λ r. ⌜ after r (now (state .exit)) (now (air .exit)) ≡ ranIn (hereIn (now (state .entry)) (now (air .entry))) (rollStepsIn (heldIn (now (state .entry))) (now (air .entry))) ⌝ }
 {
     let present = row::get(state, state::PRESENT);
@@ -69,7 +70,7 @@ fn run_steps(state: &mut [u16], air: &mut [u8]) -> u32
 
 // Each post in rising lane order hears the first frame of every order of the other lanes.
 fn hear_orders(state: &mut [u16], air: &mut [u8], present: u16) -> u32
-    requires { do ⌜ ((← ⟦state.len()⟧) ≡ 4476) × (present ≡ getD (now state) 0 0) ⌝ }
+    requires { do ⌜ ((← ⟦state.len()⟧) ≡ 4483) × (present ≡ getD (now state) 0 0) ⌝ }
     ensures { λ r. ⌜ after r (now (state .exit)) (now (air .exit)) ≡ ranIn (hereIn (now (state .entry)) (now (air .entry))) (postsHear (yardIn (now (state .entry))) 8) ⌝ }
     ensures bound { λ r. ⌜ r ≤ 4194240 ⌝ }
 {
@@ -82,7 +83,7 @@ fn hear_orders(state: &mut [u16], air: &mut [u8], present: u16) -> u32
 
 // The post of lane p, if there is one, hears those of each other lane.
 fn hear_lanes(state: &mut [u16], air: &mut [u8], present: u16, p: u8) -> u32
-    requires { do ⌜ (← ⟦state.len()⟧) ≡ 4476 ⌝ }
+    requires { do ⌜ (← ⟦state.len()⟧) ≡ 4483 ⌝ }
     ensures { λ r. ⌜ after r (now (state .exit)) (now (air .exit)) ≡ ranIn (hereIn (now (state .entry)) (now (air .entry))) (cond (hasLane present p) (lanesHears (yardIn (now (state .entry))) p 8) []) ⌝ }
     ensures bound { λ r. ⌜ r ≤ 524280 ⌝ }
 {
@@ -98,7 +99,7 @@ fn hear_lanes(state: &mut [u16], air: &mut [u8], present: u16, p: u8) -> u32
 
 // It hears those of lane q, if that is another lane, serials rising.
 fn hear_lane(state: &mut [u16], air: &mut [u8], p: u8, q: u8) -> u32
-    requires { do ⌜ ((← ⟦state.len()⟧) ≡ 4476) × (q < 8) ⌝ }
+    requires { do ⌜ ((← ⟦state.len()⟧) ≡ 4483) × (q < 8) ⌝ }
     ensures { λ r. ⌜ after r (now (state .exit)) (now (air .exit)) ≡ ranIn (hereIn (now (state .entry)) (now (air .entry))) (laneHeard (yardIn (now (state .entry))) p q) ⌝ }
     ensures bound { λ r. ⌜ r ≤ 65535 ⌝ }
 {
@@ -113,7 +114,7 @@ fn hear_lane(state: &mut [u16], air: &mut [u8], p: u8, q: u8) -> u32
     while serial < sent {
         serial = serial + 1;
         let place = row::order_place(q, SerialCell(serial));
-        let k = row::get_in(state, state::FIRST, 128, place);
+        let k = row::get_in(state, state::FIRST, row::ORDERS, place);
         yard::hear(state, air, p as usize, k as usize);
     }
     sent as u32
@@ -131,6 +132,7 @@ fn send_beacons(state: &mut [u16], air: &mut [u8], sources: u16) -> u32
     steps
 }
 
+// The post of lane i, if it is a source, sends one.
 fn send_beacon(state: &mut [u16], air: &mut [u8], sources: u16, i: u8) -> u32
     ensures { λ r. ⌜ after r (now (state .exit)) (now (air .exit)) ≡ ranIn (hereIn (now (state .entry)) (now (air .entry))) (cond (hasLane sources i) (beacon i ∷ []) []) ⌝ }
     ensures bound { λ r. ⌜ r ≤ 1 ⌝ }

@@ -75,7 +75,7 @@ not-refused : (y : _) (ks : List (List ℕ)) (p s d : ℕ) → yardRefusal p s d
 unfolding freshIn
 not-refused y ks p s d z = rw z
 
-fresh-held : (state state′ : List ℕ) (n p s d : ℕ) → length state ≡ 4476 → yardRefusal p s d ≡ 0
+fresh-held : (state state′ : List ℕ) (n p s d : ℕ) → length state ≡ 4483 → yardRefusal p s d ≡ 0
     → _≡_ {A = Made} (record { number = n; held = heldIn state′ }) (freshIn (heldIn state) p s d)
     → heldIn state′ ≡ whole (freshYard p s d) nothingKnown
 fresh-held state state′ n p s d long z e =
@@ -83,7 +83,7 @@ fresh-held state state′ n p s d long z e =
     let k : freshIn (heldIn state) p s d .number ≡ 0 = rw w (not-refused (yardIn state) (knownsIn state) p s d z) in
     ap (λ (m : Made). m .held) e ∙ state-sound .fresh (heldIn state) p s d k
 
-pub first-here : (s air state state′ : List ℕ) (l : Line) (st : Sets) (n : ℕ) → judged s .number ≡ 0 → length state ≡ 4476 → l ≡ lineAt s 0 → st ≡ setsOf l
+pub first-here : (s air state state′ : List ℕ) (l : Line) (st : Sets) (n : ℕ) → judged s .number ≡ 0 → length state ≡ 4483 → l ≡ lineAt s 0 → st ≡ setsOf l
     → _≡_ {A = Made} (record { number = n; held = heldIn state′ }) (freshIn (heldIn state) (st .present) (st .sources) (st .dests))
     → hereIn state′ air ≡ scriptHere s air
 first-here s air state state′ l st n good long el es e =
@@ -119,10 +119,10 @@ good-here s air state′ air′ good e =
     (ap (λ (x : Here). x .held) is, ap (λ (x : Here). x .air) is)
 
 -- the steps, then the posts
-pub yard-of : (state : List ℕ) (y : _) (ks : List (List ℕ)) → length state ≡ 4476 → heldIn state ≡ whole y ks → yardIn state ≡ y
+pub yard-of : (state : List ℕ) (y : _) (ks : List (List ℕ)) → length state ≡ 4483 → heldIn state ≡ whole y ks → yardIn state ≡ y
 yard-of state y ks long e = let z : whole (yardIn state) (knownsIn state) ≡ whole y ks = sym (held-whole state long) ∙ e in cc
 
-pub good-posts : (s air state′ air′ : List ℕ) (o p q : Out) → judged s .number ≡ 0 → length state′ ≡ 4476
+pub good-posts : (s air state′ air′ : List ℕ) (o p q : Out) → judged s .number ≡ 0 → length state′ ≡ 4483
     → hereIn state′ air′ ≡ hereAfter (scriptHere s air) (stepLines s)
     → p ≡ wrote o (refusedIn (scriptHere s air) 1 (stepLines s)) → q ≡ wrote p (postsText (yardIn state′) 8)
     → (q ≡ wrote o (scriptText s air)) × (air′ ≡ scriptWorld s air .air)
@@ -195,18 +195,18 @@ bad-printed s air output v r output' e ev h eo =
 abbrev Told : List ℕ → List ℕ → List ℕ → ℕ → List ℕ → List ℕ → Type 0
 Told s air state r state' air' = (r ≡ stateTold s air state) × ((heldIn state' ≡ stateHeld s air state) × (air' ≡ stateAir s air state))
 
-pub other-state : (s air state : List ℕ) (r : ℕ) → (length state ≡ 4476 → ⊥) → r ≡ badState → Told s air state r state air
+pub other-state : (s air state : List ℕ) (r : ℕ) → (length state ≡ 4483 → ⊥) → r ≡ badState → Told s air state r state air
 unfolding stateTold stateHeld stateAir
-other-state s air state r h er = rw (ne-eqb (length state) 4476 h) (er, (refl, refl))
+other-state s air state r h er = rw (ne-eqb (length state) 4483 h) (er, (refl, refl))
 
-pub bad-told : (s air state : List ℕ) (v : Judged) (r : ℕ) → length state ≡ 4476 → v ≡ judged s → (v .number ≡ 0 → ⊥) → r ≡ badScript (v .line) (v .number)
+pub bad-told : (s air state : List ℕ) (v : Judged) (r : ℕ) → length state ≡ 4483 → v ≡ judged s → (v .number ≡ 0 → ⊥) → r ≡ badScript (v .line) (v .number)
     → Told s air state r state air
 unfolding stateTold stateHeld stateAir
 bad-told s air state v r e ev h er =
     let bad : (judged s .number ≡ 0 → ⊥) = rw (← ev) h in
-    rw (eq-eqb (length state) 4476 e, ne-eqb (judged s .number) 0 bad) (rw ev at er, (refl, refl))
+    rw (eq-eqb (length state) 4483 e, ne-eqb (judged s .number) 0 bad) (rw ev at er, (refl, refl))
 
-pub good-told : (s air state state' air' : List ℕ) (v : Judged) (r : ℕ) → length state ≡ 4476 → v ≡ judged s → v .number ≡ 0
+pub good-told : (s air state state' air' : List ℕ) (v : Judged) (r : ℕ) → length state ≡ 4483 → v ≡ judged s → v .number ≡ 0
     → hereIn state' air' ≡ hereAfter (scriptHere s air) (stepLines s) → r ≡ lastIn (scriptHere s air) noStep (stepLines s)
     → Told s air state r state' air'
 unfolding stateTold stateHeld stateAir
@@ -214,4 +214,4 @@ good-told s air state state' air' v r e ev z eh er =
     let good : judged s .number ≡ 0 = rw (← ev) z in
     let h = good-here s air state' air' good eh in
     let last = last-same (scriptHere s air) (scriptStart s air) noStep (stepLines s) (start-holds s air good) in
-    rw (eq-eqb (length state) 4476 e, eq-eqb (judged s .number) 0 good) (er ∙ last, h)
+    rw (eq-eqb (length state) 4483 e, eq-eqb (judged s .number) 0 good) (er ∙ last, h)

@@ -10,9 +10,9 @@ use Rattle.meaning.specs.Script.{scriptStart, stepLines, scriptWorld}
 use Rattle.script.specs.Told.{noStep, badScript, badState, lastTold}
 use Rattle.script.specs.OnState.{scriptKnowns}
 
--- a state has 4,476 cells
+-- a state has 4,483 cells
 abbrev pub goodState : List ℕ → Bool
-goodState state = eqb (length state) 4476
+goodState state = eqb (length state) 4483
 
 -- the answer of the last line, told as one number; a state of another length, then a script that is refused by 1 to 5, are told apart
 unfoldable pub stateTold : List ℕ → List ℕ → List ℕ → ℕ

@@ -54,7 +54,7 @@ pub extern "C" fn drift_run_script(script: &[u8], air: &mut [u8], output: &mut [
     print_good(script, &mut state, air, output)
 }
 
-// Runs a script and leaves its yard in the state: the answer of its last line as one number. A state that has not 4,476
+// Runs a script and leaves its yard in the state: the answer of its last line as one number. A state that has not 4,483
 // cells, or a script that is refused by 1 to 5, is told, and all stays as it was.
 #[no_mangle]
 pub extern "C" fn drift_script_state(script: &[u8], air: &mut [u8], state: &mut [u16]) -> u64
@@ -76,7 +76,7 @@ pub extern "C" fn drift_script_state(script: &[u8], air: &mut [u8], state: &mut 
 
 // Runs a script that is not refused, then prints the posts.
 fn print_good(script: &[u8], state: &mut [u16], air: &mut [u8], output: &mut [u8]) -> usize
-    requires { do ⌜ (judged (now script) .number ≡ 0) × ((← ⟦state.len()⟧) ≡ 4476) ⌝ }
+    requires { do ⌜ (judged (now script) .number ≡ 0) × ((← ⟦state.len()⟧) ≡ 4483) ⌝ }
     ensures { λ r. ⌜ out (now (output .exit)) r ≡ wrote (out (now (output .entry)) 0) (scriptText (now (script .entry)) (now (air .entry))) ⌝ }
     ensures bytes { λ _. ⌜ now (air .exit) ≡ scriptWorld (now (script .entry)) (now (air .entry)) .air ⌝ }
 {
@@ -86,7 +86,7 @@ fn print_good(script: &[u8], state: &mut [u16], air: &mut [u8], output: &mut [u8
 
 // Runs a script that is not refused: line 1 makes the yard, the lines after it are its steps; each refused one is printed.
 fn run_good(script: &[u8], state: &mut [u16], air: &mut [u8], output: &mut [u8]) -> Ran
-    requires { do ⌜ (judged (now script) .number ≡ 0) × ((← ⟦state.len()⟧) ≡ 4476) ⌝ }
+    requires { do ⌜ (judged (now script) .number ≡ 0) × ((← ⟦state.len()⟧) ≡ 4483) ⌝ }
     ensures { λ r. ⌜ hereIn (now (state .exit)) (now (air .exit)) ≡ hereAfter (scriptHere (now (script .entry)) (now (air .entry))) (stepLines (now (script .entry))) ⌝ }
     ensures printed { λ r. ⌜ out (now (output .exit)) (r .to) ≡ wrote (out (now (output .entry)) 0) (refusedIn (scriptHere (now (script .entry)) (now (air .entry))) 1 (stepLines (now (script .entry)))) ⌝ }
     ensures answer { λ r. ⌜ r .answer ≡ lastIn (scriptHere (now (script .entry)) (now (air .entry))) noStep (stepLines (now (script .entry))) ⌝ }

@@ -11,10 +11,10 @@ ghost use Rattle.meaning.specs.Texts.{postText, postsText};
 
 // The posts, a line each in rising lane order.
 pub(crate) fn put_posts(output: &mut [u8], to: usize, state: &[u16]) -> usize
-    requires { do ⌜ (← ⟦state.len()⟧) ≡ 4476 ⌝ }
+    requires { do ⌜ (← ⟦state.len()⟧) ≡ 4483 ⌝ }
     ensures { λ r. ⌜ out (now (output .exit)) r ≡ wrote (out (now (output .entry)) to) (postsText (yardIn (now (state .entry))) 8) ⌝ }
 {
-    let present = row::get(state, 0);
+    let present = row::get(state, state::PRESENT);
     let mut a = to;
     for lane in 0..8u16 {
         a = put_row(output, a, state, present, lane);
@@ -24,13 +24,13 @@ pub(crate) fn put_posts(output: &mut [u8], to: usize, state: &[u16]) -> usize
 
 // The line of the post of a lane, if there is one.
 fn put_row(output: &mut [u8], to: usize, state: &[u16], present: u16, lane: u16) -> usize
-    requires { do ⌜ ((← ⟦state.len()⟧) ≡ 4476) × (lane < 8) ⌝ }
+    requires { do ⌜ ((← ⟦state.len()⟧) ≡ 4483) × (lane < 8) ⌝ }
     ensures { λ r. ⌜ out (now (output .exit)) r ≡ wrote (out (now (output .entry)) to) (cond (hasLane present lane) (postText lane (postIn (rowOf (now (state .entry)) lane))) []) ⌝ }
 {
     if !cells::has(present, lane) {
         return to;
     }
-    let start = 132 + row::LENGTH * (lane as usize);
+    let start = state::ROWS + row::LENGTH * (lane as usize);
     let end = start + row::LENGTH;
     printout::put_post(output, to, lane, &state[start..end])
 }

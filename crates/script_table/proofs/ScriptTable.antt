@@ -15,7 +15,7 @@ use Rattle.steps.specs.Steps.{orderSent, orderStep, hearTaken, hearOther, hearS
 use Rattle.state.specs.Yards.{freshYard, yardRefusal, yardMade}
 use Rattle.yard.specs.Singles.{framesAfter, postOrders, postOrdersAir, firstAfter, yardOrders, yardOrdersAir, postHears, postHearsAir, yardHears, yardHearsAir, postBeacons, postBeaconsAir, yardBeacons, yardBeaconsAir}
 use Rattle.yard.specs.Worlds.{single, singles}
-use Rattle.roll.specs.RollCall.{laneHears, lanesHears, postsHear, beaconsSent, sourcesBelow, beaconsHeard, postsHearBeacons, rollSteps, rollRefusal, rollCall, rollCallAir}
+use Rattle.roll.specs.RollCall.{laneHears, lanesHears, postsHear, beaconsSent, sourcesBelow, beaconsHeard, postsHearBeacons, rollSteps, sourceSpent, rollRefusal, rollCall, rollCallAir}
 use Rattle.roll.specs.Runs.{answer, step, run}
 use Rattle.text.specs.Decimal.{decimal}
 use Rattle.scan.specs.Scan.{allBelow as allBytes, stands, digitAt, readText, firstDigit, nextDigit, readNumber}
@@ -26,7 +26,7 @@ use Rattle.meaning.specs.Script.{worldAfter, refusedLines, scriptWorld, scriptT
 use Rattle.script_table.specs.ScriptCases.{ScriptBench, MoreScriptBench}
 
 pub scriptBench : ScriptBench
-unfolding anyBelow frameOf bytesOf badEntries frameRefusal readRefusal placeRefusal placed framesWith entryPlace stampUnder withStamp orderPlace raised raisedBelow newer newestBelow newestEntries kept ticked ownTaken raisedPost taken allBelow isLogged isDue dueBelow comesBefore insertBy sortBy duePlaces dueLog delivered badOrders badLog badRecord orderRefusal strangeEntries hearRefusal orderSent orderStep hearTaken hearOther hearStep beaconStep freshYard yardRefusal yardMade framesAfter postOrders postOrdersAir firstAfter yardOrders yardOrdersAir postHears postHearsAir yardHears yardHearsAir postBeacons postBeaconsAir yardBeacons yardBeaconsAir single singles laneHears lanesHears postsHear beaconsSent sourcesBelow beaconsHeard postsHearBeacons rollSteps rollRefusal rollCall rollCallAir answer step run ones decimal allBytes stands digitAt readText firstDigit nextDigit readNumber orRole readRole readPost postAdded postsRead readYard yardLineRefusal yardLine stepLineRefusal orderLine hearLine beaconLine rollLine yardOr rollOr beaconOr hearOr lineAt linesFrom judgedLines judged refusedText itemText itemsText postText postsText worldAfter refusedLines scriptWorld scriptText printout airAfter
+unfolding anyBelow frameOf bytesOf badEntries frameRefusal readRefusal placeRefusal placed framesWith entryPlace stampUnder withStamp orderPlace raised raisedBelow newer newestBelow newestEntries kept ticked ownTaken raisedPost taken allBelow isLogged isDue dueBelow comesBefore insertBy sortBy duePlaces dueLog delivered badOrders badLog badRecord orderRefusal strangeEntries hearRefusal orderSent orderStep hearTaken hearOther hearStep beaconStep freshYard yardRefusal yardMade framesAfter postOrders postOrdersAir firstAfter yardOrders yardOrdersAir postHears postHearsAir yardHears yardHearsAir postBeacons postBeaconsAir yardBeacons yardBeaconsAir single singles laneHears lanesHears postsHear beaconsSent sourcesBelow beaconsHeard postsHearBeacons rollSteps sourceSpent rollRefusal rollCall rollCallAir answer step run ones decimal allBytes stands digitAt readText firstDigit nextDigit readNumber orRole readRole readPost postAdded postsRead readYard yardLineRefusal yardLine stepLineRefusal orderLine hearLine beaconLine rollLine yardOr rollOr beaconOr hearOr lineAt linesFrom judgedLines judged refusedText itemText itemsText postText postsText worldAfter refusedLines scriptWorld scriptText printout airAfter
 scriptBench = record {
   P1 = refl;
   P2 = refl;

@@ -1,5 +1,5 @@
 -- The yard bench of document 01, "proved, in one joint table": frames and posts run singly, the yard, its refusals, scripts;
--- and the cases of document 02, K1. Assumes nothing.
+-- and the cases of document 02, K1 and K2. Assumes nothing.
 use Rattle.table.specs.Cases.{Bench}
 use Rattle.table.specs.YardCases.{YardBench}
 use Rattle.table.specs.RefusalCases.{RefusalBench}

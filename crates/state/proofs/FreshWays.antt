@@ -34,13 +34,13 @@ cleared s₀ s n h e = rw (h, drop-length, append-nil) at e
 
 -- ---- the cells before the rows
 
-pub front-fresh : (s row t u m : List ℕ) (present sources : ℕ) → length s ≡ 4476 → row ≡ replicate (length (take (132 - 0) (drop 0 s))) 0
-    → t ≡ take 0 s ++ (row ++ drop (132 - 0) (drop 0 s)) → u ≡ set t 0 present → m ≡ set u 1 sources → FreshFront m present sources
+pub front-fresh : (s row t u m : List ℕ) (present sources : ℕ) → length s ≡ 4483 → row ≡ replicate (length (take (139 - 0) (drop 0 s))) 0
+    → t ≡ take 0 s ++ (row ++ drop (139 - 0) (drop 0 s)) → u ≡ set t 0 present → m ≡ set u 1 sources → FreshFront m present sources
 unfolding part
 front-fresh s row t u m present sources long er et eu em =
-    let l : length (take 132 s) ≡ 132 = simp length-take (omega arith) in
-    let w : row ≡ replicate 132 0 = rw l at er in
-    let e : m ≡ set (set (replicate 132 0 ++ drop 132 s) 0 present) 1 sources = rw (em, eu, et, w) in
+    let l : length (take 139 s) ≡ 139 = simp length-take (omega arith) in
+    let w : row ≡ replicate 139 0 = rw l at er in
+    let e : m ≡ set (set (replicate 139 0 ++ drop 139 s) 0 present) 1 sources = rw (em, eu, et, w) in
     record {
       posts = rw e;
       roles = rw e;
@@ -63,7 +63,7 @@ row-fresh l a b d e m lane present sources dests long ea eb ed ee em =
 pub rows-none : (s : List ℕ) (present sources dests : ℕ) → FreshBelow s present sources dests 0 × SameFront s s
 rows-none s present sources dests = (record { post = λ i l. absurd (omega arith); known = λ i l. absurd (omega arith) }, λ b m k. refl)
 
-pub rows-more : (s₀ s row t : List ℕ) (present sources dests lane : ℕ) → length s ≡ 4476 → lane < 8 → length row ≡ length (lentRow s lane)
+pub rows-more : (s₀ s row t : List ℕ) (present sources dests lane : ℕ) → length s ≡ 4483 → lane < 8 → length row ≡ length (lentRow s lane)
     → FreshBelow s present sources dests lane × SameFront s₀ s
     → postIn row ≡ freshPost lane present sources dests → knownIn row ≡ replicate 8 0 → t ≡ rowBack s lane row
     → FreshBelow t present sources dests (lane + 1) × SameFront s₀ t
@@ -72,7 +72,7 @@ rows-more s₀ s row t present sources dests lane long small lr h ep ek et = (re
     size : length row ≡ 543
     size = lr ∙ lent-length s lane long small
 
-    back : t ≡ putPart s (132 + 543 * lane) 543 row
+    back : t ≡ putPart s (139 + 543 * lane) 543 row
     back = et ∙ back-is s lane row
 
     post : (i : ℕ) → i < lane + 1 → Dec (i ≡ lane) → postIn (rowOf t i) ≡ freshPost i present sources dests
@@ -88,10 +88,10 @@ rows-more s₀ s row t present sources dests lane long small lr h ep ek et = (re
 
 -- ---- the whole
 
-same-cell : (s t : List ℕ) (k : ℕ) → SameFront s t → k + 1 ≤ 132 → getD t (k + 0) 0 ≡ getD s (k + 0) 0
+same-cell : (s t : List ℕ) (k : ℕ) → SameFront s t → k + 1 ≤ 139 → getD t (k + 0) 0 ≡ getD s (k + 0) 0
 same-cell s t k h l = sym (part-get t k 1 0 (omega arith)) ∙ ap (λ (x : List ℕ). getD x 0 0) (h k 1 l) ∙ part-get s k 1 0 (omega arith)
 
-held-fresh : (s t : List ℕ) (present sources dests : ℕ) → length t ≡ 4476 → FreshFront s present sources → FreshBelow t present sources dests 8 → SameFront s t
+held-fresh : (s t : List ℕ) (present sources dests : ℕ) → length t ≡ 4483 → FreshFront s present sources → FreshBelow t present sources dests 8 → SameFront s t
     → heldIn t ≡ whole (freshYard present sources dests) nothingKnown
 unfolding yardIn knownsIn freshYard
 held-fresh s t present sources dests long f b e =
@@ -104,25 +104,25 @@ held-fresh s t present sources dests long f b e =
     (λ i l. at-lane [] (λ (j : ℕ). knownIn (rowOf t j)) i l ∙ b .known i l)
     in
     held-whole t long
-    ∙ rw (ps, ks, same-cell s t 0 e (omega arith), same-cell s t 1 e (omega arith), same-cell s t 2 e (omega arith), same-cell s t 3 e (omega arith), e 4 128 (omega arith), f .posts, f .roles, f .frames, f .beacons, f .first)
+    ∙ rw (ps, ks, same-cell s t 0 e (omega arith), same-cell s t 1 e (omega arith), same-cell s t 2 e (omega arith), e 3 8 (omega arith), e 11 128 (omega arith), f .posts, f .roles, f .frames, f .beacons, f .first)
 
 -- 3, then 12, for the roles or the length
-pub fresh-judged : (s : List ℕ) (present sources dests n12 m n : ℕ) (astray : Bool) → n12 ≡ cond (not (eqb (length s) 4476)) 12 0 → astray ≡ roleAstray present sources dests
-    → m ≡ cond astray 12 n12 → n ≡ cond (eqb (ones present) 0) 3 m → n ≡ 0 → (length s ≡ 4476) × (yardRefusal present sources dests ≡ 0)
+pub fresh-judged : (s : List ℕ) (present sources dests n12 m n : ℕ) (astray : Bool) → n12 ≡ cond (not (eqb (length s) 4483)) 12 0 → astray ≡ roleAstray present sources dests
+    → m ≡ cond astray 12 n12 → n ≡ cond (eqb (ones present) 0) 3 m → n ≡ 0 → (length s ≡ 4483) × (yardRefusal present sources dests ≡ 0)
 unfolding yardRefusal
 fresh-judged s present sources dests n12 m n astray e12 ea em en z =
     let a = passed (eqb (ones present) 0) 3 m (omega arith) (sym en ∙ z) in
     let b = passed astray 12 n12 (omega arith) (sym em ∙ a .1) in
-    let d = passed (not (eqb (length s) 4476)) 12 0 (omega arith) (sym e12 ∙ b .1) in
-    (eqb-true (length s) 4476 (not-false _ (d .0)), rw (a .0, ← ea, b .0))
+    let d = passed (not (eqb (length s) 4483)) 12 0 (omega arith) (sym e12 ∙ b .1) in
+    (eqb-true (length s) 4483 (not-false _ (d .0)), rw (a .0, ← ea, b .0))
 
-pub fresh-refused : (s : List ℕ) (present sources dests n12 m n : ℕ) (astray : Bool) → n12 ≡ cond (not (eqb (length s) 4476)) 12 0 → astray ≡ roleAstray present sources dests
+pub fresh-refused : (s : List ℕ) (present sources dests n12 m n : ℕ) (astray : Bool) → n12 ≡ cond (not (eqb (length s) 4483)) 12 0 → astray ≡ roleAstray present sources dests
     → m ≡ cond astray 12 n12 → n ≡ cond (eqb (ones present) 0) 3 m → (n ≡ 0 → ⊥)
     → _≡_ {A = Made} (record { number = n; held = heldIn s }) (freshIn (heldIn s) present sources dests)
 unfolding heldIn freshIn yardRefusal
-fresh-refused s present sources dests n12 m n astray e12 ea em en h = go (eqb (length s) 4476) refl astray refl (eqb (ones present) 0) refl
+fresh-refused s present sources dests n12 m n astray e12 ea em en h = go (eqb (length s) 4483) refl astray refl (eqb (ones present) 0) refl
   where
-    go : (a : Bool) → eqb (length s) 4476 ≡ a → (b : Bool) → astray ≡ b → (d : Bool) → eqb (ones present) 0 ≡ d
+    go : (a : Bool) → eqb (length s) 4483 ≡ a → (b : Bool) → astray ≡ b → (d : Bool) → eqb (ones present) 0 ≡ d
         → _≡_ {A = Made} (record { number = n; held = heldIn s }) (freshIn (heldIn s) present sources dests)
     go false p b q true r = let z : n ≡ 3 = rw r at en in rw (p, r, z)
     go false p true q false r = let z : n ≡ 12 = rw (r, em, q) at en in rw (p, r, z)
@@ -131,7 +131,7 @@ fresh-refused s present sources dests n12 m n astray e12 ea em en h = go (eqb (l
     go true p true q false r = let z : n ≡ 12 = rw (r, em, q) at en in rw (p, r, ← ea, q, z)
     go true p false q false r = absurd (h (rw (r, em, q, e12, p) at en))
 
-pub fresh-made : (s u t : List ℕ) (present sources dests : ℕ) → length s ≡ 4476 → yardRefusal present sources dests ≡ 0 → length t ≡ 4476
+pub fresh-made : (s u t : List ℕ) (present sources dests : ℕ) → length s ≡ 4483 → yardRefusal present sources dests ≡ 0 → length t ≡ 4483
     → FreshFront u present sources → FreshBelow t present sources dests 8 → SameFront u t
     → _≡_ {A = Made} (record { number = 0; held = heldIn t }) (freshIn (heldIn s) present sources dests)
 unfolding freshIn

@@ -48,13 +48,13 @@ same-lanes f g o = rw (o 0, o 1, o 2, o 3, o 4, o 5, o 6, o 7)
 
 -- ---- what a state holds
 
-pub held-whole : (s : List ℕ) → length s ≡ 4476 → heldIn s ≡ whole (yardIn s) (knownsIn s)
+pub held-whole : (s : List ℕ) → length s ≡ 4483 → heldIn s ≡ whole (yardIn s) (knownsIn s)
 unfolding heldIn
-held-whole s h = rw (eq-eqb (length s) 4476 h)
+held-whole s h = rw (eq-eqb (length s) 4483 h)
 
-pub held-other : (s : List ℕ) → (length s ≡ 4476 → ⊥) → heldIn s ≡ other s
+pub held-other : (s : List ℕ) → (length s ≡ 4483 → ⊥) → heldIn s ≡ other s
 unfolding heldIn
-held-other s h = rw (ne-eqb (length s) 4476 h)
+held-other s h = rw (ne-eqb (length s) 4483 h)
 
 pub at-yard : (s : List ℕ) (lane : ℕ) → lane < 8 → postAt (yardIn s) lane ≡ postIn (rowOf s lane)
 unfolding yardIn
@@ -68,41 +68,41 @@ pub frames-in : (s : List ℕ) → yardIn s .frames ≡ getD s 2 0
 unfolding yardIn
 frames-in s = refl
 
-pub beacons-in : (s : List ℕ) → yardIn s .beacons ≡ getD s 3 0
+pub beacons-in : (s : List ℕ) → yardIn s .beacons ≡ part s 3 8
 unfolding yardIn
 beacons-in s = refl
 
-yard-is : {a a′ b b′ e e′ f f′ : ℕ} {ps ps′ : List Post} {l l′ : List ℕ} → a ≡ a′ → b ≡ b′ → ps ≡ ps′ → e ≡ e′ → f ≡ f′ → l ≡ l′
+yard-is : {a a′ b b′ e e′ : ℕ} {ps ps′ : List Post} {f f′ l l′ : List ℕ} → a ≡ a′ → b ≡ b′ → ps ≡ ps′ → e ≡ e′ → f ≡ f′ → l ≡ l′
     → _≡_ {A = Yard} (record { present = a; sources = b; posts = ps; frames = e; beacons = f; first = l }) (record { present = a′; sources = b′; posts = ps′; frames = e′; beacons = f′; first = l′ })
 yard-is p q r s t u = rw (p, q, r, s, t, u)
 
 -- ---- a row written
 
-module _ (s : List ℕ) (lane : ℕ) (row : List ℕ) (long : length s ≡ 4476) (small : lane < 8) (size : length row ≡ 543) where
+module _ (s : List ℕ) (lane : ℕ) (row : List ℕ) (long : length s ≡ 4483) (small : lane < 8) (size : length row ≡ 543) where
   abbrev t : List ℕ
-  t = putPart s (132 + 543 * lane) 543 row
+  t = putPart s (139 + 543 * lane) 543 row
 
-  inside : 132 + 543 * lane + 543 ≤ length s
+  inside : 139 + 543 * lane + 543 ≤ length s
   inside = omega arith
 
   pub this-row : rowOf t lane ≡ row
-  this-row = part-back s (132 + 543 * lane) 543 row inside size
+  this-row = part-back s (139 + 543 * lane) 543 row inside size
 
   pub other-row : (i : ℕ) → (i ≡ lane → ⊥) → rowOf t i ≡ rowOf s i
   other-row i n = go (decLt i lane)
     where
       go : Dec (i < lane) → rowOf t i ≡ rowOf s i
-      go (yes l) = part-before s (132 + 543 * lane) 543 row inside size (132 + 543 * i) 543 (omega arith)
-      go (no l) = part-after s (132 + 543 * lane) 543 row inside size (132 + 543 * i) 543 (omega (arith, n))
+      go (yes l) = part-before s (139 + 543 * lane) 543 row inside size (139 + 543 * i) 543 (omega arith)
+      go (no l) = part-after s (139 + 543 * lane) 543 row inside size (139 + 543 * i) 543 (omega (arith, n))
 
-  pub row-long : length t ≡ 4476
-  row-long = length-back s (132 + 543 * lane) 543 row inside size ∙ long
+  pub row-long : length t ≡ 4483
+  row-long = length-back s (139 + 543 * lane) 543 row inside size ∙ long
 
   -- the cells before the rows
-  pub front-part : (b m : ℕ) → b + m ≤ 132 → part t b m ≡ part s b m
-  front-part b m h = part-before s (132 + 543 * lane) 543 row inside size b m (omega arith)
+  pub front-part : (b m : ℕ) → b + m ≤ 139 → part t b m ≡ part s b m
+  front-part b m h = part-before s (139 + 543 * lane) 543 row inside size b m (omega arith)
 
-  pub front-cell : (k : ℕ) → k + 1 ≤ 132 → getD t (k + 0) 0 ≡ getD s (k + 0) 0
+  pub front-cell : (k : ℕ) → k + 1 ≤ 139 → getD t (k + 0) 0 ≡ getD s (k + 0) 0
   front-cell k h = sym (part-get t k 1 0 (omega arith)) ∙ ap (λ (l : List ℕ). getD l 0 0) (front-part k 1 h) ∙ part-get s k 1 0 (omega arith)
 
   pub row-yard : yardIn t ≡ withPost (yardIn s) lane (postIn row) (yardIn s .frames)
@@ -112,7 +112,7 @@ module _ (s : List ℕ) (lane : ℕ) (row : List ℕ) (long : length s ≡ 4476)
       = set-lane noPost (λ (i : ℕ). postIn (rowOf s i)) (λ (i : ℕ). postIn (rowOf t i)) lane small (λ i h n. ap postIn (other-row i n))
       ∙ ap (λ (l : List ℕ). set (map (λ (i : ℕ). postIn (rowOf s i)) lanes) lane (postIn l)) this-row
       in
-      yard-is (front-cell 0 (omega arith)) (front-cell 1 (omega arith)) ps (front-cell 2 (omega arith)) (front-cell 3 (omega arith)) (front-part 4 128 (omega arith))
+      yard-is (front-cell 0 (omega arith)) (front-cell 1 (omega arith)) ps (front-cell 2 (omega arith)) (front-part 3 8 (omega arith)) (front-part 11 128 (omega arith))
 
   pub row-knowns : knownsIn t ≡ set (knownsIn s) lane (knownIn row)
   unfolding knownsIn
@@ -122,44 +122,44 @@ module _ (s : List ℕ) (lane : ℕ) (row : List ℕ) (long : length s ≡ 4476)
 
 -- the row of a lane as code lends it, and the state that it comes back to
 abbrev pub lentRow : List ℕ → ℕ → List ℕ
-lentRow s lane = take (132 + 543 * lane + 543 - (132 + 543 * lane)) (drop (132 + 543 * lane) s)
+lentRow s lane = take (139 + 543 * lane + 543 - (139 + 543 * lane)) (drop (139 + 543 * lane) s)
 
 abbrev pub rowBack : List ℕ → ℕ → List ℕ → List ℕ
-rowBack s lane row = take (132 + 543 * lane) s ++ (row ++ drop (132 + 543 * lane + 543 - (132 + 543 * lane)) (drop (132 + 543 * lane) s))
+rowBack s lane row = take (139 + 543 * lane) s ++ (row ++ drop (139 + 543 * lane + 543 - (139 + 543 * lane)) (drop (139 + 543 * lane) s))
 
-same-543 : (lane : ℕ) → 132 + 543 * lane + 543 - (132 + 543 * lane) ≡ 543
+same-543 : (lane : ℕ) → 139 + 543 * lane + 543 - (139 + 543 * lane) ≡ 543
 same-543 lane = omega arith
 
 pub lent-is : (s : List ℕ) (lane : ℕ) → lentRow s lane ≡ rowOf s lane
 unfolding part
 lent-is s lane = rw (same-543 lane)
 
-pub back-is : (s : List ℕ) (lane : ℕ) (row : List ℕ) → rowBack s lane row ≡ putPart s (132 + 543 * lane) 543 row
+pub back-is : (s : List ℕ) (lane : ℕ) (row : List ℕ) → rowBack s lane row ≡ putPart s (139 + 543 * lane) 543 row
 unfolding putPart
 back-is s lane row = rw (same-543 lane)
 
-pub lent-length : (s : List ℕ) (lane : ℕ) → length s ≡ 4476 → lane < 8 → length (lentRow s lane) ≡ 543
+pub lent-length : (s : List ℕ) (lane : ℕ) → length s ≡ 4483 → lane < 8 → length (lentRow s lane) ≡ 543
 lent-length s lane long small = rw (same-543 lane) (simp (length-take, length-drop) (omega arith))
 
--- ---- the counts of frames and beacons
+-- ---- the count of frames
 
 abbrev pub withFrames : Yard → ℕ → Yard
 withFrames y frames = withBeacons y frames (y .beacons)
 
-module _ (s : List ℕ) (v : ℕ) (long : length s ≡ 4476) where
+module _ (s : List ℕ) (v : ℕ) (long : length s ≡ 4483) where
   frames-part : (b m : ℕ) → 3 ≤ b → part (set s 2 v) b m ≡ part s b m
   unfolding putIn
   frames-part b m h = part-apart s 2 1 0 v b m (rw (le-leb 3 b h))
 
   pub frames-row : (lane : ℕ) → rowOf (set s 2 v) lane ≡ rowOf s lane
-  frames-row lane = frames-part (132 + 543 * lane) 543 (omega arith)
+  frames-row lane = frames-part (139 + 543 * lane) 543 (omega arith)
 
   pub frames-yard : yardIn (set s 2 v) ≡ withFrames (yardIn s) v
   unfolding yardIn putIn
   frames-yard =
       let cell = cell-apart s 2 1 0 v in
       yard-is (cell 0 refl) (cell 1 refl) (same-lanes (λ (i : ℕ). postIn (rowOf s i)) (λ (i : ℕ). postIn (rowOf (set s 2 v) i)) (λ i. ap postIn (frames-row i)))
-      (getD-set-same s 2 v 0 (omega arith)) (cell 3 refl) (frames-part 4 128 (omega arith))
+      (getD-set-same s 2 v 0 (omega arith)) (frames-part 3 8 (omega arith)) (frames-part 11 128 (omega arith))
 
   pub frames-knowns : knownsIn (set s 2 v) ≡ knownsIn s
   unfolding knownsIn
@@ -168,50 +168,48 @@ module _ (s : List ℕ) (v : ℕ) (long : length s ≡ 4476) where
   pub frames-held : heldIn (set s 2 v) ≡ whole (withFrames (yardIn s) v) (knownsIn s)
   frames-held = held-whole (set s 2 v) (length-set s 2 v ∙ long) ∙ ap₂ whole frames-yard frames-knowns
 
-  beacons-part : (b m : ℕ) → 4 ≤ b → part (set s 3 v) b m ≡ part s b m
-  unfolding putIn
-  beacons-part b m h = part-apart s 3 1 0 v b m (rw (le-leb 4 b h))
+-- ---- a cell of the n from a on, before the rows
 
-  pub beacons-yard : yardIn (set s 3 v) ≡ withBeacons (yardIn s) (yardIn s .frames) v
-  unfolding yardIn putIn
-  beacons-yard =
-      let cell = cell-apart s 3 1 0 v in
-      yard-is (cell 0 refl) (cell 1 refl)
-      (same-lanes (λ (i : ℕ). postIn (rowOf s i)) (λ (i : ℕ). postIn (rowOf (set s 3 v) i)) (λ i. ap postIn (beacons-part (132 + 543 * i) 543 (omega arith))))
-      (cell 2 refl) (getD-set-same s 3 v 0 (omega arith)) (beacons-part 4 128 (omega arith))
+module _ (s : List ℕ) (a n i v : ℕ) (front : a + n ≤ 139) where
+  abbrev u : List ℕ
+  u = putIn s a n i v
 
-  pub beacons-knowns : knownsIn (set s 3 v) ≡ knownsIn s
+  cell-row : (lane : ℕ) → rowOf u lane ≡ rowOf s lane
+  cell-row lane = part-apart s a n i v (139 + 543 * lane) 543 (rw (le-leb (a + n) (139 + 543 * lane) (omega arith)))
+
+  cell-posts : map (λ (k : ℕ). postIn (rowOf u k)) lanes ≡ map (λ (k : ℕ). postIn (rowOf s k)) lanes
+  cell-posts = same-lanes (λ (k : ℕ). postIn (rowOf s k)) (λ (k : ℕ). postIn (rowOf u k)) (λ k. ap postIn (cell-row k))
+
+  pub cell-knowns : knownsIn u ≡ knownsIn s
   unfolding knownsIn
-  beacons-knowns =
-      same-lanes (λ (i : ℕ). knownIn (rowOf s i)) (λ (i : ℕ). knownIn (rowOf (set s 3 v) i)) (λ i. ap knownIn (beacons-part (132 + 543 * i) 543 (omega arith)))
+  cell-knowns = same-lanes (λ (k : ℕ). knownIn (rowOf s k)) (λ (k : ℕ). knownIn (rowOf u k)) (λ k. ap knownIn (cell-row k))
 
--- ---- the first frames
+  pub cell-long : length u ≡ length s
+  unfolding putIn
+  cell-long = go (ltb i n)
+    where
+      go : (b : Bool) → length (cond b (set s (a + i) v) s) ≡ length s
+      go true = length-set s (a + i) v
+      go false = refl
 
+-- a count of beacons
+pub beacons-yard : (s : List ℕ) (i v : ℕ) → yardIn (putIn s 3 8 i v) ≡ withBeacons (yardIn s) (yardIn s .frames) (set (yardIn s .beacons) i v)
+unfolding yardIn
+beacons-yard s i v =
+    let cell = cell-apart s 3 8 i v in
+    yard-is (cell 0 refl) (cell 1 refl) (cell-posts s 3 8 i v (omega arith)) (cell 2 refl) (part-put s 3 8 i v) (part-apart s 3 8 i v 11 128 refl)
+
+-- the number of a first frame
 abbrev pub withFirst : Yard → List ℕ → Yard
 withFirst y first = record { present = y .present; sources = y .sources; posts = y .posts; frames = y .frames; beacons = y .beacons; first = first }
 
-module _ (s : List ℕ) (i v : ℕ) where
-  first-row : (lane : ℕ) → rowOf (putIn s 4 128 i v) lane ≡ rowOf s lane
-  first-row lane = part-apart s 4 128 i v (132 + 543 * lane) 543 (rw (le-leb 132 (132 + 543 * lane) (omega arith)))
+first-yard : (s : List ℕ) (i v : ℕ) → yardIn (putIn s 11 128 i v) ≡ withFirst (yardIn s) (set (yardIn s .first) i v)
+unfolding yardIn
+first-yard s i v =
+    let cell = cell-apart s 11 128 i v in
+    yard-is (cell 0 refl) (cell 1 refl) (cell-posts s 11 128 i v (omega arith)) (cell 2 refl) (part-apart s 11 128 i v 3 8 refl) (part-put s 11 128 i v)
 
-  first-yard : yardIn (putIn s 4 128 i v) ≡ withFirst (yardIn s) (set (yardIn s .first) i v)
-  unfolding yardIn
-  first-yard =
-      let cell = cell-apart s 4 128 i v in
-      yard-is (cell 0 refl) (cell 1 refl) (same-lanes (λ (k : ℕ). postIn (rowOf s k)) (λ (k : ℕ). postIn (rowOf (putIn s 4 128 i v) k)) (λ k. ap postIn (first-row k)))
-      (cell 2 refl) (cell 3 refl) (part-put s 4 128 i v)
-
-  first-knowns : knownsIn (putIn s 4 128 i v) ≡ knownsIn s
-  unfolding knownsIn
-  first-knowns = same-lanes (λ (k : ℕ). knownIn (rowOf s k)) (λ (k : ℕ). knownIn (rowOf (putIn s 4 128 i v) k)) (λ k. ap knownIn (first-row k))
-
-  first-long : length (putIn s 4 128 i v) ≡ length s
-  unfolding putIn
-  first-long = go (ltb i 128)
-    where
-      go : (b : Bool) → length (cond b (set s (4 + i) v) s) ≡ length s
-      go true = length-set s (4 + i) v
-      go false = refl
-
-  pub first-held : length s ≡ 4476 → heldIn (putIn s 4 128 i v) ≡ whole (withFirst (yardIn s) (set (yardIn s .first) i v)) (knownsIn s)
-  first-held h = held-whole (putIn s 4 128 i v) (first-long ∙ h) ∙ ap₂ whole first-yard first-knowns
+pub first-held : (s : List ℕ) (i v : ℕ) → length s ≡ 4483
+    → heldIn (putIn s 11 128 i v) ≡ whole (withFirst (yardIn s) (set (yardIn s .first) i v)) (knownsIn s)
+first-held s i v h =
+    held-whole (putIn s 11 128 i v) (cell-long s 11 128 i v (omega arith) ∙ h) ∙ ap₂ whole (first-yard s i v) (cell-knowns s 11 128 i v (omega arith))

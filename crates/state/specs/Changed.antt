@@ -1,5 +1,6 @@
 -- A yard with something changed, for the definitions of its steps. Assumes nothing.
 use Prim.Native.Nat.{ℕ}
+use mathlib.Core.List.{List}
 use lib.ListN.{set}
 use Rattle.post.specs.declared.Post.{Post}
 use Rattle.state.specs.Yards.{Yard}
@@ -15,8 +16,8 @@ withPost y lane p frames = record {
   first = y .first;
 }
 
--- y with so many frames on the air, and so many beacons sent
-abbrev pub withBeacons : Yard → ℕ → ℕ → Yard
+-- y with so many frames on the air, and so many beacons sent by each lane
+abbrev pub withBeacons : Yard → ℕ → List ℕ → Yard
 withBeacons y frames beacons = record {
   present = y .present;
   sources = y .sources;

@@ -12,8 +12,8 @@ pub record FreshFront (state : List ℕ) (present sources : ℕ) : Type 0 where
   pub posts : getD state 0 0 ≡ present
   pub roles : getD state 1 0 ≡ sources
   pub frames : getD state 2 0 ≡ 0
-  pub beacons : getD state 3 0 ≡ 0
-  pub first : part state 4 128 ≡ replicate 128 0
+  pub beacons : part state 3 8 ≡ replicate 8 0
+  pub first : part state 11 128 ≡ replicate 128 0
 
 -- the rows of the lanes below n
 pub record FreshBelow (state : List ℕ) (present sources dests n : ℕ) : Type 0 where
@@ -22,4 +22,4 @@ pub record FreshBelow (state : List ℕ) (present sources dests n : ℕ) : Type 
 
 -- two states have the same cells before the rows
 abbrev pub SameFront : List ℕ → List ℕ → Type 0
-SameFront s t = (b m : ℕ) → b + m ≤ 132 → part t b m ≡ part s b m
+SameFront s t = (b m : ℕ) → b + m ≤ 139 → part t b m ≡ part s b m

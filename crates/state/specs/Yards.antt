@@ -1,23 +1,23 @@
 -- The yard, and a fresh one: document 01, "Posts, stamps, serials" and "The words of demand 3". Assumes nothing.
 use Prim.Native.Nat.{ℕ}
-use mathlib.Core.Bool.{cond}
+use mathlib.Core.Bool.{Bool, cond}
 use mathlib.Core.List.{List, [], map}
 use lib.Count.{ones}
-use lib.Dec.{eqb}
+use lib.Dec.{leb, eqb}
 use lib.ListN.{getD, replicate}
 use Rattle.frame.specs.Lanes.{lanes}
 use Rattle.cells.specs.Sets.{roleAstray}
 use Rattle.post.specs.declared.Post.{Post}
 use Rattle.post.specs.Record.{freshPost}
 
--- the lanes that have a post, the sources among them, a record for each lane, how many frames and beacons were sent, and for each
--- order the number of its first frame, at the order's place
+-- the lanes that have a post, the sources among them, a record for each lane, how many frames were sent, how many beacons by the post
+-- of each lane, and for each order the number of its first frame, at the order's place
 pub record Yard : Type 0 where
   pub present : ℕ
   pub sources : ℕ
   pub posts : List Post
   pub frames : ℕ
-  pub beacons : ℕ
+  pub beacons : List ℕ
   pub first : List ℕ
 
 -- what a list of posts gives past its end
@@ -41,6 +41,14 @@ noPost = record {
 abbrev pub postAt : Yard → ℕ → Post
 postAt y lane = getD (y .posts) lane noPost
 
+-- how many beacons the post of a lane has sent
+abbrev pub beaconsAt : Yard → ℕ → ℕ
+beaconsAt y lane = getD (y .beacons) lane 0
+
+-- K2, "Each post gets 128 of its own": a post that has sent so many has none left
+abbrev pub spent : ℕ → Bool
+spent beacons = leb 128 beacons
+
 -- "A fresh yard is any yard before its first step: each post fresh, no frame on the air yet, no beacon sent."
 unfoldable pub freshYard : ℕ → ℕ → ℕ → Yard
 freshYard present sources dests = record {
@@ -48,7 +56,7 @@ freshYard present sources dests = record {
   sources = sources;
   posts = map (λ (lane : ℕ). freshPost lane present sources dests) lanes;
   frames = 0;
-  beacons = 0;
+  beacons = replicate 8 0;
   first = replicate 128 0;
 }
 

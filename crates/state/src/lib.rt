@@ -6,23 +6,24 @@ ghost use mathlib.Core.Path.{_≡_};
 ghost use Rattle.state.specs.States.{heldIn};
 ghost use Rattle.state.specs.Fresh.{Made, freshIn};
 
-// Cells of a state: the set of posts, the set of sources, how many frames and beacons were sent, the first frames, the rows.
-pub const LENGTH: usize = 4476;
+// How many lanes there are.
+pub const LANES: usize = 8;
 
+// Cells of a state: the set of posts, the set of sources, how many frames were sent, how many beacons by each lane, the first
+// frames, the rows.
 pub const PRESENT: usize = 0;
 
 pub const SOURCES: usize = 1;
 
 pub const FRAMES: usize = 2;
 
-pub const BEACONS_SENT: usize = 3;
+pub const BEACONS_SENT: u16 = 3;
 
-pub const FIRST: u16 = 4;
+pub const FIRST: u16 = BEACONS_SENT + LANES as u16;
 
-pub const ROWS: usize = 132;
+pub const ROWS: usize = (FIRST + row::ORDERS) as usize;
 
-// How many lanes there are.
-pub const LANES: usize = 8;
+pub const LENGTH: usize = ROWS + LANES * row::LENGTH;
 
 // A fresh yard from the lanes that have a post, the sources and the destinations (3, 12).
 pub fn fresh(state: &mut [u16], present: u8, sources: u8, dests: u8) -> u8

@@ -11,7 +11,7 @@ ghost use Rattle.state.specs.Making.{FreshFront, FreshBelow, SameFront};
 
 // The cells before the rows: the sets of posts and of sources, and 0 in all others.
 pub(crate) fn front(state: &mut [u16], present: u16, sources: u16)
-    requires { do ⌜ (← ⟦state.len()⟧) ≡ 4476 ⌝ }
+    requires { do ⌜ (← ⟦state.len()⟧) ≡ 4483 ⌝ }
     ensures { λ _. ⌜ FreshFront (now (state .exit)) present sources ⌝ }
 {
     clear(&mut state[0..ROWS]);
@@ -21,7 +21,7 @@ pub(crate) fn front(state: &mut [u16], present: u16, sources: u16)
 
 // A fresh row for each lane.
 pub(crate) fn rows(state: &mut [u16], present: u16, sources: u16, dests: u16)
-    requires { do ⌜ (← ⟦state.len()⟧) ≡ 4476 ⌝ }
+    requires { do ⌜ (← ⟦state.len()⟧) ≡ 4483 ⌝ }
     ensures { λ _. ⌜ FreshBelow (now (state .exit)) present sources dests 8 ⌝ }
     ensures front { λ _. ⌜ SameFront (now (state .entry)) (now (state .exit)) ⌝ }
 {

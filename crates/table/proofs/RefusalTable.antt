@@ -1,4 +1,4 @@
--- Every refusal of the joint table, by computing the definitions; after a thousand beacons by Beacons.antt. Assumes nothing.
+-- Every refusal of the joint table, by computing the definitions; after many beacons by Beacons.antt. Assumes nothing.
 use mathlib.Core.Path.{refl}
 use Prim.Native.Nat.{ℕ}
 use lib.ListN.{replicate, length-replicate}
@@ -20,7 +20,7 @@ use Rattle.roll.specs.Runs.{answer, step, run}
 use Rattle.table.specs.Scripts.{three, airOf, began, ordersSentBy0}
 use Rattle.table.specs.RefusalCases.{RefusalBench}
 use Rattle.table.proofs.BadInput.{order-lane, hear-lane, beacon-lane, order-word, order-short, order-long, hear-short, beacon-short, roll-short, order-nobody, hear-nobody}
-use Rattle.table.proofs.Beacons.{beacon-1024-passes, beacon-1025-refused, lane-3-not-there, roll-passes, roll-refused}
+use Rattle.table.proofs.Beacons.{beacon-128-passes, beacon-129-refused, lane-1-granted, roll-passes, roll-refused, dest-spent, no-source, roll-128-passes, roll-129-refused, beacon-refused}
 
 pub refusalBench : RefusalBench
 unfolding anyBelow frameOf bytesOf badEntries frameRefusal readRefusal placeRefusal placed framesWith entryPlace stampUnder withStamp orderPlace raised raisedBelow newer newestBelow newestEntries kept ticked ownTaken raisedPost taken allBelow isLogged isDue dueBelow comesBefore insertBy sortBy duePlaces dueLog delivered orderRefusal strangeEntries hearRefusal orderSent orderStep hearTaken hearStep freshYard framesAfter postOrders postOrdersAir firstAfter yardOrders yardOrdersAir postHears postHearsAir yardHears yardHearsAir postBeacons postBeaconsAir yardBeacons yardBeaconsAir single rollRefusal rollCall rollCallAir answer step run ordersSentBy0
@@ -44,14 +44,20 @@ refusalBench = record {
   hear-25 = (refl, refl);
   frame-0-heard = refl;
   hear-26 = (refl, refl);
-  beacon-1024 = beacon-1024-passes;
-  beacon-27 = beacon-1025-refused;
-  roll-2-left = roll-passes;
+  beacon-128 = beacon-128-passes;
+  beacon-27 = beacon-129-refused;
+  noisy-post = lane-1-granted 1;
+  noisy-post-1024 = lane-1-granted 896;
+  roll-1-left = roll-passes;
   roll-27 = roll-refused;
+  roll-dest-spent = dest-spent;
+  roll-no-source = no-source;
+  roll-128 = roll-128-passes;
+  roll-129 = roll-129-refused;
+  beacon-after-rolls = beacon-refused;
   order-4-wins = order-lane (airOf 65535) 65536;
   order-5-wins = order-word (replicate 65535 0);
   order-13-wins = order-nobody (replicate 65535 0) (length-replicate {A = ℕ} 65535 0);
   hear-13-wins = hear-nobody (replicate 65535 0) (length-replicate {A = ℕ} 65535 0);
   hear-21-wins = (refl, refl);
-  beacon-21-wins = lane-3-not-there;
 }

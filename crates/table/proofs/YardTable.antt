@@ -1,6 +1,5 @@
 -- Every case of the joint table in a yard, by computing the definitions. Assumes nothing.
 use mathlib.Core.Path.{refl}
-use lib.Count.{ones}
 use Rattle.frame.specs.Lanes.{anyBelow}
 use Rattle.frame.specs.Layout.{frameOf, bytesOf}
 use Rattle.frame.specs.Refusals.{badEntries, frameRefusal, readRefusal}
@@ -14,14 +13,14 @@ use Rattle.steps.specs.Steps.{orderSent, orderStep, hearTaken, hearOther, hearS
 use Rattle.state.specs.Yards.{freshYard}
 use Rattle.yard.specs.Singles.{framesAfter, postOrders, postOrdersAir, firstAfter, yardOrders, yardOrdersAir, postHears, postHearsAir, yardHears, yardHearsAir, postBeacons, postBeaconsAir, yardBeacons, yardBeaconsAir}
 use Rattle.yard.specs.Worlds.{single, singles}
-use Rattle.roll.specs.RollCall.{laneHears, lanesHears, postsHear, beaconsSent, sourcesBelow, beaconsHeard, postsHearBeacons, rollSteps, rollRefusal, rollCall, rollCallAir}
+use Rattle.roll.specs.RollCall.{laneHears, lanesHears, postsHear, beaconsSent, sourcesBelow, beaconsHeard, postsHearBeacons, rollSteps, sourceSpent, rollRefusal, rollCall, rollCallAir}
 use Rattle.roll.specs.Runs.{answer, step, run, orderSentBy, sentBy, sent}
 use Rattle.roll.specs.Logs.{inOrder}
 use Rattle.table.specs.Scripts.{answers}
 use Rattle.table.specs.YardCases.{YardBench}
 
 pub yardBench : YardBench
-unfolding anyBelow frameOf bytesOf badEntries frameRefusal readRefusal placeRefusal placed framesWith entryPlace stampUnder withStamp orderPlace raised raisedBelow newer newestBelow newestEntries kept ticked ownTaken raisedPost taken allBelow isLogged isDue dueBelow comesBefore insertBy sortBy duePlaces dueLog delivered orderRefusal strangeEntries hearRefusal orderSent orderStep hearTaken hearOther hearStep beaconStep freshYard framesAfter postOrders postOrdersAir firstAfter yardOrders yardOrdersAir postHears postHearsAir yardHears yardHearsAir postBeacons postBeaconsAir yardBeacons yardBeaconsAir single singles laneHears lanesHears postsHear beaconsSent sourcesBelow beaconsHeard postsHearBeacons rollSteps rollRefusal rollCall rollCallAir answer step run orderSentBy sentBy sent inOrder ones answers
+unfolding anyBelow frameOf bytesOf badEntries frameRefusal readRefusal placeRefusal placed framesWith entryPlace stampUnder withStamp orderPlace raised raisedBelow newer newestBelow newestEntries kept ticked ownTaken raisedPost taken allBelow isLogged isDue dueBelow comesBefore insertBy sortBy duePlaces dueLog delivered orderRefusal strangeEntries hearRefusal orderSent orderStep hearTaken hearOther hearStep beaconStep freshYard framesAfter postOrders postOrdersAir firstAfter yardOrders yardOrdersAir postHears postHearsAir yardHears yardHearsAir postBeacons postBeaconsAir yardBeacons yardBeaconsAir single singles laneHears lanesHears postsHear beaconsSent sourcesBelow beaconsHeard postsHearBeacons rollSteps sourceSpent rollRefusal rollCall rollCallAir answer step run orderSentBy sentBy sent inOrder answers
 yardBench = record {
   P1-answers = refl;
   P1-printout = refl;

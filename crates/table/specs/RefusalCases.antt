@@ -1,8 +1,9 @@
--- The yard bench of document 01, continued: each refusal of a step in a yard, its neighbour that passes, and which number wins. Assumes nothing.
+-- The yard bench of document 01, continued, and K2's cases: each refusal of a step in a yard, its neighbour that passes, and which number
+-- wins. Assumes nothing.
 use mathlib.Core.Path.{_≡_}
 use Rattle.yard.specs.Worlds.{order, hear, beacon}
 use Rattle.roll.specs.Runs.{one, roll, answer, run}
-use Rattle.table.specs.Scripts.{Refuses, sends, takes, beaconSent, calls, orderRefused, hearRefused, beaconRefused, callRefused, three, alone, airOf, began, ordersSentBy0, beaconsBy0}
+use Rattle.table.specs.Scripts.{Refuses, sends, takes, beaconSent, calls, orderRefused, hearRefused, beaconRefused, callRefused, three, alone, relayAlone, airOf, began, ordersSentBy0, repeated}
 
 -- every refused step leaves the yard and the air as they were
 pub record RefusalBench : Type 0 where
@@ -33,16 +34,26 @@ pub record RefusalBench : Type 0 where
   pub frame-0-heard : answer (run three began) (one (hear 2 0)) ≡ takes 0
   -- "The post's own broadcast": 26
   pub hear-26 : Refuses (run three began) (one (hear 0 0)) (hearRefused 26)
-  -- "Beacon 1,024 passes, 1,025: 27."
-  pub beacon-1024 : answer (run three (beaconsBy0 1023)) (one (beacon 0)) ≡ beaconSent
-  pub beacon-27 : Refuses (run three (beaconsBy0 1024)) (one (beacon 0)) (beaconRefused 27)
-  -- "for a roll call fewer than S left": S is 2
-  pub roll-2-left : answer (run three (beaconsBy0 1022)) roll ≡ calls 6
-  pub roll-27 : Refuses (run three (beaconsBy0 1023)) roll (callRefused 27)
+  -- K2, "The bench case at 1,024 becomes 128 and 129."
+  pub beacon-128 : answer (run three (repeated 127 (one (beacon 0)))) (one (beacon 0)) ≡ beaconSent
+  pub beacon-27 : Refuses (run three (repeated 128 (one (beacon 0)))) (one (beacon 0)) (beaconRefused 27)
+  -- K2, "A noisy post at one end used up the yard's 1,024 beacons, and the others could send none": after its 128 and a 129th, which is
+  -- refused, lane 1 is granted one, and so it is after 1,024
+  pub noisy-post : answer (run three (repeated 129 (one (beacon 0)))) (one (beacon 1)) ≡ beaconSent
+  pub noisy-post-1024 : answer (run three (repeated 1024 (one (beacon 0)))) (one (beacon 1)) ≡ beaconSent
+  -- K2, "A roll call is refused with 27 when some source has none left": lane 0 has one left, or none
+  pub roll-1-left : answer (run three (repeated 127 (one (beacon 0)))) roll ≡ calls 6
+  pub roll-27 : Refuses (run three (repeated 128 (one (beacon 0)))) roll (callRefused 27)
+  -- a *dest* that has none left does not hinder it, and where there is no source nobody does
+  pub roll-dest-spent : answer (run three (repeated 128 (one (beacon 2)))) roll ≡ calls 6
+  pub roll-no-source : answer (run relayAlone (repeated 128 (one (beacon 0)))) roll ≡ calls 0
+  -- K2, "a roll call, which takes one from every source": the 128th passes, and then neither another nor a beacon does
+  pub roll-128 : answer (run alone (repeated 127 roll)) roll ≡ calls 1
+  pub roll-129 : Refuses (run alone (repeated 128 roll)) roll (callRefused 27)
+  pub beacon-after-rolls : Refuses (run alone (repeated 128 roll)) (one (beacon 0)) (beaconRefused 27)
   -- "Input comes before state, and within each the lowest number wins."
   pub order-4-wins : Refuses (airOf 65535) (one (order 8 65536)) (orderRefused 4)
   pub order-5-wins : Refuses (airOf 65535) (one (order 0 65536)) (orderRefused 5)
   pub order-13-wins : Refuses (airOf 65535) (one (order 3 1)) (orderRefused 13)
   pub hear-13-wins : Refuses (airOf 65535) (one (hear 3 9)) (hearRefused 13)
   pub hear-21-wins : Refuses (run three began) (one (hear 3 9)) (hearRefused 21)
-  pub beacon-21-wins : Refuses (run three (beaconsBy0 1024)) (one (beacon 3)) (beaconRefused 21)

@@ -7,7 +7,7 @@ use Rattle.steps.specs.declared.OrderAnswer as orders
 use Rattle.steps.specs.declared.HearAnswer as hearings
 use Rattle.steps.specs.declared.BeaconAnswer as beaconing
 use Rattle.state.specs.Yards.{Yard, postAt, freshYard}
-use Rattle.yard.specs.Worlds.{World, order, hear, beacon}
+use Rattle.yard.specs.Worlds.{World, order, hear}
 use Rattle.roll.specs.declared.RollAnswer as calling
 use Rattle.roll.specs.Runs.{Step, one, Answer, ordered, heard, beaconed, called, answer, step, Order}
 use Rattle.roll.specs.Logs.{logAt}
@@ -86,12 +86,15 @@ callRefused number = called (calling.the-variants.Refused number)
 abbrev pub freshWith : ℕ → Yard → World
 freshWith bytes yard = record { yard = yard; air = replicate bytes 0 }
 
--- `(yard (0 both) (1 source) (2 dest))`, `(yard (0 both))` and `(yard (0 both) (1 both))`
+-- `(yard (0 both) (1 source) (2 dest))`, `(yard (0 both))`, `(yard (0 relay))` and `(yard (0 both) (1 both))`
 abbrev pub three : World
 three = freshWith 65536 (freshYard 0b111 0b011 0b101)
 
 abbrev pub alone : World
 alone = freshWith 65536 (freshYard 0b1 0b1 0b1)
+
+abbrev pub relayAlone : World
+relayAlone = freshWith 65536 (freshYard 0b1 0b0 0b0)
 
 abbrev pub two : World
 two = freshWith 65536 (freshYard 0b11 0b11 0b11)
@@ -132,7 +135,7 @@ unfoldable pub ordersSentBy0 : ℕ → List Step
 ordersSentBy0 zero = []
 ordersSentBy0 (suc n) = ordersSentBy0 n ++ (one (order 0 (suc n)) ∷ [])
 
--- lane 0 sends this many beacons
-unfoldable pub beaconsBy0 : ℕ → List Step
-beaconsBy0 zero = []
-beaconsBy0 (suc n) = one (beacon 0) ∷ beaconsBy0 n
+-- a step this many times
+unfoldable pub repeated : ℕ → Step → List Step
+repeated zero s = []
+repeated (suc n) s = s ∷ repeated n s

@@ -3,7 +3,7 @@ use mathlib.Core.Path.{_≡_, refl, _∙_}
 use mathlib.Core.Bool.{Bool, true, false, cond}
 use mathlib.Core.List.{List, []}
 use Prim.Native.Nat.{ℕ}
-use lib.Dec.{ltb, leb, eqb}
+use lib.Dec.{ltb, eqb}
 use lib.ListN.{getD}
 use Rattle.air.specs.Air.{badAir}
 use Rattle.post.specs.declared.Post.{Post}
@@ -18,7 +18,7 @@ use Rattle.steps.specs.declared.OrderAnswer.{OrderAnswer}
 use Rattle.steps.specs.declared.HearAnswer.{HearAnswer}
 use Rattle.steps.specs.declared.BeaconAnswer.{BeaconAnswer}
 use Rattle.steps.proofs.AnswerLaws as steps
-use Rattle.state.specs.Yards.{postAt}
+use Rattle.state.specs.Yards.{postAt, beaconsAt, spent}
 use Rattle.yard.specs.Singles.{stopsHearing, frameAt}
 use Rattle.state.specs.States.{Held, whole, other}
 use Rattle.yard.specs.InState.{After, ordersIn, hearsIn, beaconsIn}
@@ -89,10 +89,10 @@ sent-number p e = rw e
 beacon-value : (h : Held) (air : List ℕ) (lane : ℕ) → beaconNumber (beaconsIn h air lane .answer) ≡ beaconRefusalIn h air lane
 unfolding beaconsIn beaconRefusalIn
 beacon-value (other cells) air lane = refl
-beacon-value (whole y knowns) air lane = go (ltb 7 lane) refl (badAir air) refl (notInYard (postAt y lane .posts) (postAt y lane .lane)) refl (leb 1024 (y .beacons)) refl
+beacon-value (whole y knowns) air lane = go (ltb 7 lane) refl (badAir air) refl (notInYard (postAt y lane .posts) (postAt y lane .lane)) refl (spent (beaconsAt y lane)) refl
   where
     go : (a : Bool) → ltb 7 lane ≡ a → (b : Bool) → badAir air ≡ b → (c : Bool) → notInYard (postAt y lane .posts) (postAt y lane .lane) ≡ c
-        → (d : Bool) → leb 1024 (y .beacons) ≡ d
+        → (d : Bool) → spent (beaconsAt y lane) ≡ d
         → beaconNumber (beaconsIn (whole y knowns) air lane .answer) ≡ beaconRefusalIn (whole y knowns) air lane
     go true e b q c r d t = rw e
     go false e true q c r d t = rw (e, q)

@@ -4,7 +4,7 @@ use mathlib.Core.Bool.{Bool, true, false, cond, not, _&&_}
 use mathlib.Core.List.{List}
 use Prim.Native.Nat.{ℕ, _+_, _<_, _≤_}
 use native.Mathlib.Omega.{arith}
-use lib.Dec.{ltb, leb, eqb}
+use lib.Dec.{ltb, eqb}
 use lib.ListN.{length, getD, set}
 use lib.Seq.{set-getD}
 use borrow.Author.Tests.{ne-eqb, eqb-true, eqb-false, not-false, lt-ltb, le-ltb, leb-false}
@@ -21,6 +21,7 @@ use Rattle.cells.specs.Tables.{orderPlace}
 use Rattle.post.specs.declared.Post.{Post}
 use Rattle.row.specs.Rows.{putIn}
 use Rattle.steps.specs.Refusals.{notInYard}
+use Rattle.state.specs.Yards.{spent}
 use Rattle.yard.specs.Singles.{framesAfter, absentRefusal, stopsHearing, frameAt, stopsBeacon}
 
 -- ---- the frame that a post is to hear
@@ -137,10 +138,10 @@ not-sent s air exit frames n f ef en ex h =
 
 -- what is noted of it
 abbrev pub Noted : List ℕ → List ℕ → ℕ → ℕ → ℕ → Type 0
-Noted s t lane serial before = t ≡ cond (ltb before (getD s 2 0)) (putIn s 4 128 (orderPlace lane serial) before) s
+Noted s t lane serial before = t ≡ cond (ltb before (getD s 2 0)) (putIn s 11 128 (orderPlace lane serial) before) s
 
 pub first-noted : (s t : List ℕ) (lane serial before frames place : ℕ) → frames ≡ getD s 2 0 → before < frames → place ≡ orderPlace lane serial
-    → t ≡ putIn s 4 128 place before → Noted s t lane serial before
+    → t ≡ putIn s 11 128 place before → Noted s t lane serial before
 first-noted s t lane serial before frames place ef h ep et = rw (← ef, lt-ltb before frames h, ← ep) et
 
 pub first-kept : (s : List ℕ) (lane serial before frames : ℕ) → frames ≡ getD s 2 0 → frames ≤ before → Noted s s lane serial before
@@ -149,16 +150,16 @@ first-kept s lane serial before frames ef h = rw (← ef, le-ltb before frames h
 -- ---- what stops a beacon
 
 pub beacon-judged : (air : List ℕ) (p : Post) (lane posts beacons n27 n21 n : ℕ) (here : Bool) → posts ≡ p .posts → lane ≡ p .lane → here ≡ hasLane posts lane
-    → n27 ≡ cond (leb 1024 beacons) 27 0 → n21 ≡ cond (not here) 21 n27 → n ≡ cond (badAir air) 13 n21
+    → n27 ≡ cond (spent beacons) 27 0 → n21 ≡ cond (not here) 21 n27 → n ≡ cond (badAir air) 13 n21
     → n ≡ stopsBeacon air p beacons
 beacon-judged air p lane posts beacons n27 n21 n here ep el eh e27 e21 en = rw (en, e21, e27, eh, ep, el)
 
--- where nothing stops it the air has its length, and fewer than 1,024 were sent
-pub beacon-left : (air : List ℕ) (p : Post) (beacons : ℕ) → stopsBeacon air p beacons ≡ 0 → (length air ≡ 65536) × (beacons < 1024)
+-- where nothing stops it the air has its length, and the post has sent fewer than 128
+pub beacon-left : (air : List ℕ) (p : Post) (beacons : ℕ) → stopsBeacon air p beacons ≡ 0 → (length air ≡ 65536) × (beacons < 128)
 beacon-left air p beacons z =
-    let r27 : ℕ = cond (leb 1024 beacons) 27 0 in
+    let r27 : ℕ = cond (spent beacons) 27 0 in
     let r21 : ℕ = cond (notInYard (p .posts) (p .lane)) 21 r27 in
     let a = passed (badAir air) 13 r21 (omega arith) z in
     let b = passed (notInYard (p .posts) (p .lane)) 21 r27 (omega arith) (a .1) in
-    let d = passed (leb 1024 beacons) 27 0 (omega arith) (b .1) in
-    (eqb-true (length air) 65536 (not-false _ (a .0)), leb-false 1024 beacons (d .0))
+    let d = passed (spent beacons) 27 0 (omega arith) (b .1) in
+    (eqb-true (length air) 65536 (not-false _ (a .0)), leb-false 128 beacons (d .0))

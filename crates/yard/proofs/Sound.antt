@@ -14,7 +14,7 @@ use Rattle.deliver.specs.Known.{Known}
 use Rattle.steps.specs.Steps.{orderStep, hearStep}
 use Rattle.steps.specs.Knowing.{ordersBy, hearsBy}
 use Rattle.steps.proofs.KnownSteps.{orders-known, hears-known}
-use Rattle.state.specs.Yards.{Yard, noPost, postAt}
+use Rattle.state.specs.Yards.{Yard, noPost, postAt, beaconsAt}
 use Rattle.yard.specs.Singles.{stopsOrder, firstAfter, postOrders, postOrdersAir, yardOrders, yardOrdersAir, stopsHearing, frameAt, postHears, postHearsAir, yardHears, yardHearsAir, stopsBeacon, postBeacons, postBeaconsAir, yardBeacons, yardBeaconsAir}
 use Rattle.state.specs.States.{whole}
 use Rattle.yard.specs.InState.{ordersIn, hearsIn, beaconsIn}
@@ -103,9 +103,9 @@ module _ (y : Yard) (ks : List (List ℕ)) (air : List ℕ) (h : Sound y ks) (la
 
   pub beacons-whole : Beacons
   unfolding beaconsIn yardBeacons yardBeaconsAir postBeacons postBeaconsAir
-  beacons-whole = go (ltb lane 8) refl (eqb (stopsBeacon air (postAt y lane) (y .beacons)) 0) refl
+  beacons-whole = go (ltb lane 8) refl (eqb (stopsBeacon air (postAt y lane) (beaconsAt y lane)) 0) refl
     where
-      go : (a : Bool) → ltb lane 8 ≡ a → (b : Bool) → eqb (stopsBeacon air (postAt y lane) (y .beacons)) 0 ≡ b → Beacons
+      go : (a : Bool) → ltb lane 8 ≡ a → (b : Bool) → eqb (stopsBeacon air (postAt y lane) (beaconsAt y lane)) 0 ≡ b → Beacons
       go false a b e = (rw (a, over lane a), rw a h)
-      go true a false e = (rw (a, within lane a, e), sound-same y (yardBeacons air y lane .yard) ks h (rw a))
+      go true a false e = (rw (a, within lane a, e, set-getD (y .beacons) lane 0), sound-same y (yardBeacons air y lane .yard) ks h (rw a))
       go true a true e = (rw (a, within lane a, e), sound-same y (yardBeacons air y lane .yard) ks h (rw a))

@@ -7,7 +7,7 @@ use lib.ListN.{getD}
 use Rattle.air.specs.Air.{badAir}
 use Rattle.steps.specs.Refusals.{orderRefusal, hearRefusal}
 use Rattle.steps.specs.Knowing.{orderCountBy, hearCountBy}
-use Rattle.state.specs.Yards.{postAt}
+use Rattle.state.specs.Yards.{postAt, beaconsAt}
 use Rattle.yard.specs.Singles.{stopsHearing, frameAt, stopsBeacon}
 use Rattle.state.specs.States.{Held, whole, other}
 
@@ -55,4 +55,4 @@ hearCountIn (whole y knowns) air lane k =
 -- the number that a beacon answers, or 0: 4, 12, 13, 21, 27
 unfoldable pub beaconRefusalIn : Held → List ℕ → ℕ → ℕ
 beaconRefusalIn (other cells) air lane = cond (ltb 7 lane) 4 12
-beaconRefusalIn (whole y knowns) air lane = cond (ltb 7 lane) 4 (stopsBeacon air (postAt y lane) (y .beacons))
+beaconRefusalIn (whole y knowns) air lane = cond (ltb 7 lane) 4 (stopsBeacon air (postAt y lane) (beaconsAt y lane))

@@ -13,7 +13,7 @@ use Rattle.steps.specs.Knowing.{ordersBy, hearsBy}
 use Rattle.steps.specs.declared.OrderAnswer as orders
 use Rattle.steps.specs.declared.HearAnswer as hearings
 use Rattle.steps.specs.declared.BeaconAnswer as beaconing
-use Rattle.state.specs.Yards.{Yard, postAt}
+use Rattle.state.specs.Yards.{Yard, postAt, beaconsAt}
 use Rattle.state.specs.Changed.{withPost, withBeacons}
 use Rattle.yard.specs.Singles.{framesAfter, stopsOrder, stopsHearing, frameAt, stopsBeacon}
 use Rattle.state.specs.States.{Held, whole, other, heldIn}
@@ -79,12 +79,12 @@ hearsIn (whole y knowns) air lane k =
 unfoldable pub beaconsIn : Held → List ℕ → ℕ → After beaconing.BeaconAnswer
 beaconsIn (other cells) air lane = record { answer = beaconing.the-variants.Refused (cond (ltb 7 lane) 4 12); held = other cells; air = air }
 beaconsIn (whole y knowns) air lane =
-    let number = cond (ltb 7 lane) 4 (stopsBeacon air (postAt y lane) (y .beacons)) in
+    let number = cond (ltb 7 lane) 4 (stopsBeacon air (postAt y lane) (beaconsAt y lane)) in
     let s = beaconStep (postAt y lane) in
     cond (eqb number 0)
     (record {
       answer = s .answer;
-      held = whole (withBeacons y (framesAfter air (y .frames) (s .frame)) (y .beacons + 1)) knowns;
+      held = whole (withBeacons y (framesAfter air (y .frames) (s .frame)) (set (y .beacons) lane (beaconsAt y lane + 1))) knowns;
       air = framesWith air (y .frames) (s .frame);
     })
     (record { answer = beaconing.the-variants.Refused number; held = whole y knowns; air = air })

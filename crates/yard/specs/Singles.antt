@@ -2,7 +2,7 @@
 use Prim.Native.Nat.{ℕ, _+_}
 use mathlib.Core.Bool.{cond}
 use mathlib.Core.List.{List}
-use lib.Dec.{ltb, leb, eqb}
+use lib.Dec.{ltb, eqb}
 use lib.ListN.{set}
 use Rattle.frame.specs.Layout.{frameOf}
 use Rattle.frame.specs.Refusals.{readRefusal}
@@ -15,7 +15,7 @@ use Rattle.steps.specs.Steps.{orderStep, hearStep, beaconStep}
 use Rattle.steps.specs.declared.OrderAnswer as orders
 use Rattle.steps.specs.declared.HearAnswer as hearings
 use Rattle.steps.specs.declared.BeaconAnswer as beaconing
-use Rattle.state.specs.Yards.{Yard, postAt}
+use Rattle.state.specs.Yards.{Yard, postAt, beaconsAt, spent}
 use Rattle.state.specs.Changed.{withPost, withBeacons}
 
 -- "numbered from 0 as broadcast": a broadcast is the air's next frame. Where there is none (kind 0), or no room, nothing is written or counted.
@@ -140,11 +140,11 @@ yardHears air y lane k =
 unfoldable pub yardHearsAir : List ℕ → Yard → ℕ → ℕ → List ℕ
 yardHearsAir air y lane k = cond (ltb lane 8) (postHearsAir air (postAt y lane) (y .frames) k) air
 
--- ---- beacon: 4, 13, 21, 27 ("for a beacon 1,024 sent")
+-- ---- beacon: 4, 13, 21, 27 (K2, "Refusal 27 for a beacon now looks at that post only.")
 
--- what stops it before the post sends it
+-- what stops it before the post sends it, where the post has sent so many
 abbrev pub stopsBeacon : List ℕ → Post → ℕ → ℕ
-stopsBeacon air p beacons = cond (badAir air) 13 (cond (notInYard (p .posts) (p .lane)) 21 (cond (leb 1024 beacons) 27 0))
+stopsBeacon air p beacons = cond (badAir air) 13 (cond (notInYard (p .posts) (p .lane)) 21 (cond (spent beacons) 27 0))
 
 -- the post that sends a beacon, with the beacon on the air; the post itself stays
 unfoldable pub postBeacons : List ℕ → Post → ℕ → ℕ → PostBeaconed
@@ -160,10 +160,10 @@ postBeaconsAir air p frames beacons = cond (eqb (stopsBeacon air p beacons) 0) (
 -- the yard in which the post of a lane sends a beacon
 unfoldable pub yardBeacons : List ℕ → Yard → ℕ → YardBeaconed
 yardBeacons air y lane =
-    let s = postBeacons air (postAt y lane) (y .frames) (y .beacons) in
-    cond (ltb lane 8) (record { answer = s .answer; yard = withBeacons y (s .frames) (s .beacons) })
+    let s = postBeacons air (postAt y lane) (y .frames) (beaconsAt y lane) in
+    cond (ltb lane 8) (record { answer = s .answer; yard = withBeacons y (s .frames) (set (y .beacons) lane (s .beacons)) })
     (record { answer = beaconing.the-variants.Refused 4; yard = y })
 
 -- the air after it
 unfoldable pub yardBeaconsAir : List ℕ → Yard → ℕ → List ℕ
-yardBeaconsAir air y lane = cond (ltb lane 8) (postBeaconsAir air (postAt y lane) (y .frames) (y .beacons)) air
+yardBeaconsAir air y lane = cond (ltb lane 8) (postBeaconsAir air (postAt y lane) (y .frames) (beaconsAt y lane)) air

@@ -12,10 +12,10 @@ ghost use Rattle.state.specs.States.{heldIn};
 ghost use Rattle.yard.specs.InState.{after, ordersIn, hearsIn, beaconsIn};
 ghost use Rattle.yard.specs.Answers.{orderRefusalIn, orderSerialIn, orderStampIn, orderCountIn, hearRefusalIn, hearCountIn, beaconRefusalIn};
 
-// The last word, and how many beacons are allowed.
+// The last word, and how many beacons each post may send.
 pub const LAST_WORD: usize = 65535;
 
-pub const BEACONS: u16 = 1024;
+pub const BEACONS: u16 = 128;
 
 // Order (lane, word) in the yard (4, 5, 12, 13, then 21 to 24).
 pub fn order(state: &mut [u16], air: &mut [u8], lane: usize, word: usize) -> OrderAnswer
@@ -92,14 +92,14 @@ pub fn beacon(state: &mut [u16], air: &mut [u8], lane: usize) -> BeaconAnswer
     }
     let a = state::ROWS + row::LENGTH * lane;
     let e = a + row::LENGTH;
-    let sent = row::get(state, state::BEACONS_SENT);
+    let sent = row::get_in(state, state::BEACONS_SENT, 8, lane);
     let number = parts::beacon_refusal(&state[a..e], air, sent);
     if number != 0 {
         return BeaconAnswer::Refused(number);
     }
     let done = steps::beacon(&state[a..e]);
     let beacon_frame = done.frame;
-    row::put(state, state::BEACONS_SENT, sent + 1);
+    row::put_in(state, state::BEACONS_SENT, 8, lane, sent + 1);
     parts::broadcast(state, air, beacon_frame);
     let answer = done.answer;
     answer

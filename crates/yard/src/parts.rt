@@ -58,16 +58,16 @@ pub(crate) fn broadcast(state: &mut [u16], air: &mut [u8], f: Frame)
 
 // Where an order was broadcast since there were `before` frames, that is the number of its first frame.
 pub(crate) fn note_first(state: &mut [u16], lane: u8, serial: Serial, before: u16)
-    ensures { λ _. ⌜ now (state .exit) ≡ cond (ltb before (getD (now (state .entry)) 2 0)) (putIn (now (state .entry)) 4 128 (orderPlace lane (serial .0)) before) (now (state .entry)) ⌝ }
+    ensures { λ _. ⌜ now (state .exit) ≡ cond (ltb before (getD (now (state .entry)) 2 0)) (putIn (now (state .entry)) 11 128 (orderPlace lane (serial .0)) before) (now (state .entry)) ⌝ }
 {
     let after = row::get(state, state::FRAMES);
     if before < after {
         let place = row::order_place(lane, SerialCell(serial.0 as u16));
-        row::put_in(state, state::FIRST, 128, place, before);
+        row::put_in(state, state::FIRST, row::ORDERS, place, before);
     }
 }
 
-// What stops a beacon of the post of a row, where so many were sent: 13, 21 or 27, or 0.
+// What stops a beacon of the post of a row, which has sent so many: 13, 21 or 27, or 0.
 pub(crate) fn beacon_refusal(row: &[u16], air: &[u8], beacons: u16) -> u8
     ensures { λ r. ⌜ r ≡ stopsBeacon (now (air .entry)) (postIn (now (row .entry))) beacons ⌝ }
 {

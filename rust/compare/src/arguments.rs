@@ -3,11 +3,11 @@
 use std::ffi::OsString;
 
 pub const USAGE: &str = "\
-usage: drift-compare [SEED [FRAMES [POSTS [SCRIPTS [LISTS [CSV]]]]]]
+usage: drift-compare [SEED [FRAMES [POSTS [SCRIPTS [LISTS [CSV [GRANTS]]]]]]]
        drift-compare PART SEED COUNT [FIRST]
-PART is frames, posts, scripts, lists, csv or second-lists. SEED, COUNT, FIRST and
-the other counts are numbers from 0 to 18446744073709551615; COUNT may be forever.
-FIRST is the number of the first script, list or delivery log.";
+PART is frames, posts, scripts, lists, csv, grants, second-lists or second-grants.
+SEED, COUNT, FIRST and the other counts are numbers from 0 to 18446744073709551615;
+COUNT may be forever. FIRST is the number of the first script, list or delivery log.";
 
 const DEFAULT_SEED: u64 = 1;
 
@@ -20,19 +20,24 @@ pub enum Part {
     Lists,
     /// Delivery logs.
     Csv,
-    /// Lists of steps by the second implementation, in the place of the library.
+    /// Which beacons the posts of a yard are granted.
+    Grants,
+    /// Lists and grants by the second implementation, in the place of the library.
     SecondLists,
+    SecondGrants,
 }
 
 /// The parts by name, with their counts if none is given; 0 if they are only run
 /// by name.
-const PARTS: [(&str, Part, u64); 6] = [
+const PARTS: [(&str, Part, u64); 8] = [
     ("frames", Part::Frames, 200_000),
     ("posts", Part::Posts, 600_000),
     ("scripts", Part::Scripts, 10_000),
     ("lists", Part::Lists, 1_000),
     ("csv", Part::Csv, 30_000),
+    ("grants", Part::Grants, 1_000),
     ("second-lists", Part::SecondLists, 0),
+    ("second-grants", Part::SecondGrants, 0),
 ];
 
 /// A part to be run, with the number of random inputs and of the first one.
@@ -107,11 +112,11 @@ mod tests {
 
     #[test]
     fn counts_of_all_parts_are_read_or_refused() {
-        let defaults = [1, 200_000, 600_000, 10_000, 1_000, 30_000];
-        for given in 0..=6 {
+        let defaults = [1, 200_000, 600_000, 10_000, 1_000, 30_000, 1_000];
+        for given in 0..=7 {
             let line = (11..11 + given).map(|number| format!("{number} "));
             let mut expected = defaults.to_vec();
-            expected[..given].copy_from_slice(&[11, 12, 13, 14, 15, 16][..given]);
+            expected[..given].copy_from_slice(&[11, 12, 13, 14, 15, 16, 17][..given]);
             assert_eq!(counts(&line.collect::<String>()), Some(expected));
         }
         let bad = [
@@ -119,7 +124,7 @@ mod tests {
             "7 x",
             "-1",
             "7 9 x",
-            "1 2 3 4 5 6 7",
+            "1 2 3 4 5 6 7 8",
             "18446744073709551616",
             "1 forever",
         ];

@@ -6,64 +6,40 @@ mod tally;
 mod watch;
 
 use crate::library::Library;
+use crate::list_faults::{check_lists, smallest_list, ListFault};
+use crate::posts::made_up::lane_in;
 use crate::random::Random;
-use crate::scripts::escaped;
 use crate::scripts::pick::{Plan, Sight};
-use crate::scripts::shrink::shrink;
-use crate::scripts::step::{Step, YardLine};
-use std::fmt::{self, Display};
+use crate::scripts::step::{read_script, Step, YardLine};
 use watch::Watch;
 
 pub use tally::Tally;
 
-/// The fewest and the most steps of a list.
+/// The fewest and the most picked steps of a list.
 const LENGTHS: (u16, u16) = (20, 150);
 
-/// The most tries to find a smaller list that breaks demand 3.
-const MOST_TRIES: usize = 400;
+/// One in so many lists begins with beacons of one post, so many that it has few
+/// or none left.
+const SPENDING_ONE_IN: u16 = 8;
+const SPENDING: (u16, u16) = (124, 128);
 
-/// A list of steps after which demand 3 does not hold.
-#[derive(Debug)]
-pub struct Fault {
-    /// The number of the list.
-    pub number: u64,
-    /// The seed of the air's bytes before the first step.
-    air: u64,
-    pub script: Vec<u8>,
-    pub what: String,
-}
+/// A list of steps after which demand 3 does not hold, over an air whose bytes are
+/// made from the seed that it was checked with.
+pub type Fault = ListFault<u64>;
 
-impl Display for Fault {
-    fn fmt(&self, output: &mut fmt::Formatter) -> fmt::Result {
-        write!(output, "{}", escaped(&self.script))?;
-        writeln!(output, "{}", self.what)
-    }
-}
-
-/// Checks `count` random lists from number `first` on; stops at the first fault.
-/// `progress` is told of each number before its list runs.
+/// Checks random lists, as `check_lists` tells.
 pub fn check(
     library: &dyn Library,
     seed: u64,
     first: u64,
     count: u64,
-    mut progress: impl FnMut(u64),
+    progress: impl FnMut(u64),
 ) -> Result<Tally, Box<Fault>> {
-    let mut tally = Tally::default();
-    for number in first..first.saturating_add(count) {
-        progress(number);
-        let mut random = Random::numbered(seed, number);
+    check_lists(seed, first, count, progress, |random, tally| {
         let air = random.bits();
-        if let Err((script, what)) = check_list(library, &mut random, air, &mut tally) {
-            return Err(Box::new(Fault {
-                number,
-                air,
-                script,
-                what,
-            }));
-        }
-    }
-    Ok(tally)
+        let checked = check_list(library, random, air, tally);
+        checked.map_err(|(script, what)| (air, script, what))
+    })
 }
 
 /// Picks and checks one list; gives the script and what is wrong, if anything is.
@@ -74,8 +50,10 @@ fn check_list(
     tally: &mut Tally,
 ) -> Result<(), (Vec<u8>, String)> {
     let plan = Plan::new(random);
+    let spending = spending(random, plan.yard);
     let mut watch = Watch::new(library, plan.yard, air, tally);
     let mut checked = watch.start();
+    checked = checked.and_then(|()| spending.into_iter().try_for_each(|step| watch.step(step)));
     for _ in 0..random.between(LENGTHS.0, LENGTHS.1) {
         if checked.is_err() {
             break;
@@ -86,28 +64,28 @@ fn check_list(
     checked.map_err(|what| (watch.script().to_vec(), what))
 }
 
+/// The beacons that a list begins with; most often none.
+fn spending(random: &mut Random, yard: YardLine) -> Vec<Step> {
+    let set = random.pick(&[yard.sources, yard.posts]);
+    let count = random.between(SPENDING.0, SPENDING.1).into();
+    match (random.one_in(SPENDING_ONE_IN), lane_in(random, set)) {
+        (true, Some(lane)) => vec![Step::Beacon { lane: lane.into() }; count],
+        _ => Vec::new(),
+    }
+}
+
 /// The fault that the smallest list found shows.
-pub fn smallest(library: &dyn Library, mut fault: Box<Fault>) -> Box<Fault> {
-    let script = fault.script.clone();
-    shrink(MOST_TRIES, &script, |script| {
-        let Some(Err(what)) = check_script(library, fault.air, script) else {
-            return false;
-        };
-        fault.script = script.to_vec();
-        fault.what = what;
-        true
-    });
-    fault
+pub fn smallest(library: &dyn Library, fault: Box<Fault>) -> Box<Fault> {
+    smallest_list(fault, |&air, script| {
+        check_script(library, air, script)?.err()
+    })
 }
 
 /// Checks the list of a script; nothing if it is no yard line with steps.
 fn check_script(library: &dyn Library, air: u64, script: &[u8]) -> Option<Result<(), String>> {
-    let mut lines = script.strip_suffix(b"\n")?.split(|&byte| byte == b'\n');
-    let yard = YardLine::read(lines.next()?)?;
-    let steps: Option<Vec<Step>> = lines.map(Step::read).collect();
+    let (yard, steps) = read_script(script)?;
     let mut tally = Tally::default();
     let mut watch = Watch::new(library, yard, air, &mut tally);
-    let steps = steps?;
     let checked = watch.start();
     Some(checked.and_then(|()| steps.into_iter().try_for_each(|step| watch.step(step))))
 }

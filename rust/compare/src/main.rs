@@ -1,6 +1,6 @@
 //! Compares the static libraries of the proved crates with the second
 //! implementation on frames, single posts, scripts and delivery logs. Checks demand 3
-//! on lists of steps run by the static libraries.
+//! and request K2's promise on lists of steps run by the static libraries.
 
 #![deny(unsafe_code)]
 
@@ -10,9 +10,11 @@ mod calls;
 mod csv;
 mod damage;
 mod frames;
+mod grants;
 mod layout;
 mod lent_record;
 mod library;
+mod list_faults;
 mod lists;
 mod parts;
 #[cfg(test)]
@@ -34,6 +36,8 @@ mod tally;
 mod wrong_csv;
 #[cfg(test)]
 mod wrong_frames;
+#[cfg(test)]
+mod wrong_grants;
 #[cfg(test)]
 mod wrong_lists;
 #[cfg(test)]

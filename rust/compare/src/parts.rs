@@ -3,7 +3,7 @@
 use crate::arguments::{Part, Task};
 use crate::library::{Library, Proved};
 use crate::second::Second;
-use crate::{csv, frames, lists, posts, report, scripts};
+use crate::{csv, frames, grants, lists, posts, report, scripts};
 use std::fmt::Display;
 
 /// A long run tells how far it is each time after so many scripts, lists or logs.
@@ -14,7 +14,7 @@ const LOGS_BETWEEN: u64 = 100_000;
 /// Runs a part; true if nothing differs and everything came.
 pub fn run(task: Task) -> bool {
     match task.part {
-        Part::SecondLists => run_by(&Second, task),
+        Part::SecondLists | Part::SecondGrants => run_by(&Second, task),
         _ => run_by(&Proved, task),
     }
 }
@@ -27,6 +27,7 @@ fn run_by(library: &dyn Library, task: Task) -> bool {
         Part::Scripts => compare_scripts(library, task),
         Part::Lists | Part::SecondLists => check_lists(library, task),
         Part::Csv => compare_csv(library, task),
+        Part::Grants | Part::SecondGrants => check_grants(library, task),
     }
 }
 
@@ -87,25 +88,30 @@ fn compare_scripts(library: &dyn Library, task: Task) -> bool {
 }
 
 fn check_lists(library: &dyn Library, task: Task) -> bool {
-    let seed = task.seed;
-    let who = match task.part {
-        Part::SecondLists => "second implementation",
-        _ => "static library",
-    };
     let progress = |number| tell(task, number, LISTS_BETWEEN, "lists");
-    match lists::check(library, seed, task.first, task.count, progress) {
+    match lists::check(library, task.seed, task.first, task.count, progress) {
         Ok(tally) => {
-            println!("lists: demand 3 holds for the {who} (seed {seed})");
+            tell_held("lists: demand 3", task);
             print_and_judge(&tally, tally.never_came())
         }
         Err(fault) => {
-            let before = fault.number - task.first;
-            println!("lists: demand 3 fails after {before} lists (seed {seed}) for the {who}");
-            println!(
-                "list {} (counted from 0); the smallest found that breaks it:",
-                fault.number
-            );
+            tell_failed("lists: demand 3", task, fault.number);
             print!("{}", lists::smallest(library, fault));
+            false
+        }
+    }
+}
+
+fn check_grants(library: &dyn Library, task: Task) -> bool {
+    let progress = |number| tell(task, number, LISTS_BETWEEN, "lists");
+    match grants::check(library, task.seed, task.first, task.count, progress) {
+        Ok(tally) => {
+            tell_held("grants: request K2's promise", task);
+            print_and_judge(&tally, tally.never_came())
+        }
+        Err(fault) => {
+            tell_failed("grants: request K2's promise", task, fault.number);
+            print!("{}", grants::smallest(library, fault));
             false
         }
     }
@@ -126,6 +132,26 @@ fn compare_csv(library: &dyn Library, task: Task) -> bool {
             print!("{}\n{difference}", found.place());
             false
         }
+    }
+}
+
+/// Tells that what is claimed of lists holds.
+fn tell_held(claim: &str, task: Task) {
+    println!("{claim} holds for the {} (seed {})", who(task), task.seed);
+}
+
+/// Tells that it fails, and with which list.
+fn tell_failed(claim: &str, task: Task, number: u64) {
+    let (before, seed, who) = (number - task.first, task.seed, who(task));
+    println!("{claim} fails after {before} lists (seed {seed}) for the {who}");
+    println!("list {number} (counted from 0); the smallest found that breaks it:");
+}
+
+/// Whose lists are checked.
+fn who(task: Task) -> &'static str {
+    match task.part {
+        Part::SecondLists | Part::SecondGrants => "second implementation",
+        _ => "static library",
     }
 }
 
@@ -181,6 +207,7 @@ mod tests {
             Part::Scripts,
             Part::Lists,
             Part::Csv,
+            Part::Grants,
         ] {
             assert!(!run_by(&wrong, Task { part, ..TASK }));
         }

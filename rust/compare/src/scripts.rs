@@ -1,11 +1,13 @@
 //! The comparison of a library with the second implementation on scripts.
 
+mod beacon_limits;
 mod case;
 mod damage;
-mod draft;
+pub mod draft;
 mod limits;
 mod limits_seen;
 pub mod pick;
+pub mod printed;
 mod random_scripts;
 mod report;
 pub mod shrink;

@@ -11,19 +11,19 @@ const POSTS: usize = 0;
 const SOURCES: usize = 1;
 pub const FRAMES: usize = 2;
 pub const BEACONS: usize = 3;
-pub const FIRST: usize = 4;
+pub const FIRST: usize = BEACONS + LANES;
 pub const ROWS: usize = FIRST + ORDERS;
 /// Number of cells of a state.
 pub const STATE_CELLS: usize = ROWS + LANES * ROW_CELLS;
 
-const _: () = assert!(STATE_CELLS == 4_476);
+const _: () = assert!(STATE_CELLS == 4_483);
 
 /// Writes the yard that a script left.
 pub fn write_state(yard: &Yard, state: &mut [u16]) {
     state[POSTS] = yard.present.into();
     state[SOURCES] = yard.sources.into();
     state[FRAMES] = yard.frames;
-    state[BEACONS] = yard.beacons;
+    state[BEACONS..FIRST].copy_from_slice(&yard.beacons);
     state[FIRST..ROWS].copy_from_slice(&yard.first);
     let rows = state[ROWS..].chunks_exact_mut(ROW_CELLS);
     for (post, row) in yard.posts.iter().zip(rows) {
@@ -57,8 +57,9 @@ impl State<'_> {
         self.0[FRAMES]
     }
 
-    pub fn beacons(self) -> u16 {
-        self.0[BEACONS]
+    /// How many beacons the post of each lane has sent.
+    pub fn beacons(self) -> [u16; LANES] {
+        std::array::from_fn(|lane| self.0[BEACONS + lane])
     }
 
     /// The number of the first frame of the order at 16 × lane + serial − 1.
@@ -73,7 +74,7 @@ pub fn state_field(at: usize) -> String {
         POSTS => "posts".into(),
         SOURCES => "sources".into(),
         FRAMES => "frames".into(),
-        BEACONS => "beacons".into(),
+        BEACONS..FIRST => format!("beacons of lane {}", at - BEACONS),
         FIRST..ROWS => format!("first frame of {}", lane_and_serial(at - FIRST, 16, 1)),
         _ => {
             let (lane, cell) = ((at - ROWS) / ROW_CELLS, (at - ROWS) % ROW_CELLS);

@@ -11,7 +11,7 @@ const SCRIPT: &str = "(yard (0 both) (1 source) (2 dest))\n(order 0 417)\n(hear 
 
 /// The state behind a script, and what was answered.
 fn run(script: &str) -> (Vec<u16>, u64) {
-    let (mut air, mut state) = (vec![0xEE; 65_536], vec![0xEEEE; 4_476]);
+    let (mut air, mut state) = (vec![0xEE; 65_536], vec![0xEEEE; 4_483]);
     let mut script = script.as_bytes().to_vec();
     let answer = Second.script_state(&mut script, &mut air, &mut state);
     (state, answer)
@@ -44,27 +44,40 @@ fn a_state_is_written_cell_for_cell() {
     let (state, answer) = run(SCRIPT);
     // Taken, and two orders delivered.
     assert_eq!(answer, 0x02_0200);
-    // Three posts, two sources, five frames, no beacon.
-    assert_eq!(state[..4], [0b111, 0b011, 5, 0]);
+    // Three posts, two sources, five frames, no beacon of any lane.
+    assert_eq!(state[..11], [0b111, 0b011, 5, 0, 0, 0, 0, 0, 0, 0, 0]);
     // The orders of lanes 0 and 1 are frames 0 and 2.
     let mut first = [0; 128];
     first[16] = 2;
-    assert_eq!(state[4..132], first);
-    assert_eq!(state[132..675], first_row());
+    assert_eq!(state[11..139], first);
+    assert_eq!(state[139..682], first_row());
     // Post 1: clock 3, own serial 1, last taken 1 of lanes 0 and 1; no log.
-    assert_eq!(state[675..675 + 9], [1, 3, 5, 3, 1, 0, 1, 1, 0]);
-    assert_eq!(state[675 + 14..675 + 22], [0; 8]);
+    assert_eq!(state[682..682 + 9], [1, 3, 5, 3, 1, 0, 1, 1, 0]);
+    assert_eq!(state[682 + 14..682 + 22], [0; 8]);
     // Post 2 has logged the order of lane 0, and knows it.
-    let row = &state[132 + 2 * 543..132 + 3 * 543];
+    let row = &state[139 + 2 * 543..139 + 3 * 543];
     assert_eq!(row[..9], [2, 3, 5, 0, 0, 1, 1, 0, 0]);
     assert_eq!(row[14..22], [1, 0, 0, 0, 0, 0, 0, 0]);
     // Lanes without a post have a fresh row with the yard's sets.
     for lane in 3..8 {
-        let row = &state[132 + 543 * lane..][..543];
+        let row = &state[139 + 543 * lane..][..543];
         assert_eq!(row[..3], [lane as u16, 3, 5]);
         assert!(row[3..542].iter().all(|&cell| cell == 0));
         assert_eq!(row[542], 7);
     }
+}
+
+/// Beacons of steps and of roll calls; those that are refused are not counted.
+#[test]
+fn the_beacons_of_each_lane_have_a_cell() {
+    let yard = "(yard (0 both) (3 source) (6 relay) (7 dest))\n";
+    let steps = "(beacon 6)\n(roll)\n(beacon 7)\n(beacon 1)\n(beacon 6)\n(roll)\n(beacon 3)\n";
+    let (state, _) = run(&format!("{yard}{steps}"));
+    assert_eq!(state[3..11], [2, 0, 0, 3, 0, 0, 2, 1]);
+    let noisy = "(beacon 7)\n".repeat(200);
+    let (state, answer) = run(&format!("{yard}{steps}{noisy}"));
+    assert_eq!(state[3..11], [2, 0, 0, 3, 0, 0, 2, 128]);
+    assert_eq!(answer, 27);
 }
 
 /// A post that is no destination logs nothing and knows nothing; one that is
@@ -75,7 +88,7 @@ fn what_is_known_is_counted_in_the_log() {
     let orders = "(order 0 1)\n(order 0 2)\n(order 3 3)\n(order 0 4)\n(roll)\n(order 3 5)\n";
     let (state, _) = run(&format!("{yard}{orders}"));
     for lane in 0..8 {
-        let known = &state[132 + 543 * lane + 14..][..8];
+        let known = &state[139 + 543 * lane + 14..][..8];
         let expected = match lane {
             0 | 7 => [3, 0, 0, 1, 0, 0, 0, 0],
             _ => [0; 8],
@@ -107,13 +120,13 @@ fn a_refused_script_answers_line_and_number_and_leaves_the_state() {
         ("(yard (0 both))\n(beacon 8)\n", 0x0002_0000_0000_0904),
         ("(yard (0 both))\n(order 0 65536)\n", 0x0002_0000_0000_0905),
     ] {
-        assert_eq!(run(script), (vec![0xEEEE; 4_476], answer), "{script}");
+        assert_eq!(run(script), (vec![0xEEEE; 4_483], answer), "{script}");
     }
 }
 
 #[test]
 fn a_state_of_another_length_is_refused_before_the_script() {
-    for length in [0, 4_475, 4_477] {
+    for length in [0, 4_476, 4_482, 4_484] {
         for script in ["(yard (0 both))\n(beacon 0)\n", "(roll)\n", ""] {
             let (mut air, mut state) = (vec![0xEE; 65_536], vec![0xEEEE; length]);
             let mut text = script.as_bytes().to_vec();
@@ -128,7 +141,8 @@ fn a_state_of_another_length_is_refused_before_the_script() {
 fn a_state_is_looked_at() {
     let (state, _) = run(&format!("{SCRIPT}(beacon 0)\n(order 1 65535)\n"));
     let state = State(&state);
-    assert_eq!((state.frames(), state.beacons()), (7, 1));
+    assert_eq!(state.frames(), 7);
+    assert_eq!(state.beacons(), [1, 0, 0, 0, 0, 0, 0, 0]);
     assert_eq!((state.first(16), state.first(17)), (2, 6));
     let post = state.post(1);
     assert_eq!(
@@ -141,7 +155,7 @@ fn a_state_is_looked_at() {
     );
     // A number that is too large stays too large.
     let mut large = state.0.to_vec();
-    large[132 + 543 + 5] = 0x0101;
+    large[139 + 543 + 5] = 0x0101;
     assert_eq!(
         State(&large).post(1),
         Post {
@@ -175,17 +189,18 @@ fn every_cell_of_a_state_has_its_name() {
         (0, "posts"),
         (1, "sources"),
         (2, "frames"),
-        (3, "beacons"),
-        (4, "first frame of lane 0, serial 1"),
-        (131, "first frame of lane 7, serial 16"),
-        (132, "post 0: lane"),
-        (135, "post 0: clock"),
-        (137, "post 0: length of the log"),
-        (675 + 21, "post 1: known of lane 7"),
-        (675 + 22, "post 1: table at lane 0, serial 0"),
-        (675 + 157, "post 1: table at lane 7, serial 16"),
-        (3_933 + 414, "post 7: log at 0"),
-        (4_475, "post 7: posts"),
+        (3, "beacons of lane 0"),
+        (10, "beacons of lane 7"),
+        (11, "first frame of lane 0, serial 1"),
+        (138, "first frame of lane 7, serial 16"),
+        (139, "post 0: lane"),
+        (142, "post 0: clock"),
+        (144, "post 0: length of the log"),
+        (682 + 21, "post 1: known of lane 7"),
+        (682 + 22, "post 1: table at lane 0, serial 0"),
+        (682 + 157, "post 1: table at lane 7, serial 16"),
+        (3_940 + 414, "post 7: log at 0"),
+        (4_482, "post 7: posts"),
     ] {
         assert_eq!(names[at], expected);
     }

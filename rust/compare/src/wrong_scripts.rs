@@ -50,6 +50,7 @@ fn what_never_came_is_told() {
         "last line: roll: refused by 27",
         "printed: hear: refused by 26",
         "2,048 frames",
+        "a beacon sent after another post's was refused by 27",
     ] {
         assert!(never.contains(&name.to_string()), "{name}");
     }
@@ -210,7 +211,7 @@ fn a_difference_shows_the_smallest_script() {
     assert!(found.difference.case.lines() <= 5, "{text}");
     for part in [
         "\n(order 1 0)\n(order 1 0)\n",
-        "drift_script_state, air of 65536 bytes and 4476 cells lent",
+        "drift_script_state, air of 65536 bytes and 4483 cells lent",
         "length of the log\n  second implementation 2\n  static library        3\n",
     ] {
         assert!(text.contains(part), "{part}\n{text}");

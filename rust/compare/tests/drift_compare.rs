@@ -41,7 +41,7 @@ fn too_few_requests_fail() {
 #[test]
 fn every_part_is_run_and_told() {
     // With so few inputs not everything comes, but nothing differs.
-    let (code, output, error) = compare(&["3", "10", "10", "10", "2", "10"]);
+    let (code, output, error) = compare(&["3", "10", "10", "10", "2", "10", "2"]);
     assert_eq!((code, error.as_str()), (Some(1), ""), "{output}");
     for line in [
         "frames: static library and second implementation agree (seed 3)",
@@ -49,6 +49,7 @@ fn every_part_is_run_and_told() {
         "scripts: static library and second implementation agree (seed 3)",
         "lists: demand 3 holds for the static library (seed 3)",
         "csv: static library and second implementation agree (seed 3)",
+        "grants: request K2's promise holds for the static library (seed 3)",
     ] {
         assert!(output.lines().any(|told| told == line), "{line}\n{output}");
     }
@@ -59,6 +60,10 @@ fn one_part_is_run_alone() {
     let (code, output, error) = compare(&["second-lists", "1", "60", "5"]);
     assert_eq!((code, error.as_str()), (Some(0), ""), "{output}");
     assert!(output.starts_with("lists: demand 3 holds for the second implementation (seed 1)\n"));
+    let (code, output, error) = compare(&["second-grants", "1", "60", "5"]);
+    assert_eq!((code, error.as_str()), (Some(0), ""), "{output}");
+    let first = "grants: request K2's promise holds for the second implementation (seed 1)\n";
+    assert!(output.starts_with(first), "{output}");
     for part in ["frames", "csv"] {
         let (code, output, error) = compare(&[part, "1", "1000"]);
         assert_eq!((code, error.as_str()), (Some(0), ""), "{output}");
@@ -72,7 +77,7 @@ fn bad_arguments_are_told() {
     let bad: [&[&str]; 5] = [
         &["x"],
         &["1", "2", "-3"],
-        &["1", "2", "3", "4", "5", "6", "7"],
+        &["1", "2", "3", "4", "5", "6", "7", "8"],
         &["scripts", "1"],
         &["posts", "1", "2", "3"],
     ];

@@ -22,7 +22,7 @@ pub const AIR_LENGTH: usize = 65_536;
 /// Number of bytes of the output of a script.
 pub const OUTPUT_LENGTH: usize = 131_072;
 /// Number of cells, of 16 bits each, of the state behind a script.
-pub const STATE_CELLS: usize = 4_476;
+pub const STATE_CELLS: usize = 4_483;
 
 /// The functions as they are in the static libraries. Every pointer goes with
 /// the number of elements that it points to, but for that to a post's record;

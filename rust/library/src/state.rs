@@ -4,7 +4,8 @@ use crate::post::{LANES, ORDERS, TABLE_LENGTH};
 use crate::{Post, STATE_CELLS};
 
 // Where the numbers stand in a state, in cells; those before are single ones.
-const FIRST: usize = 4;
+const BEACONS: usize = 3;
+const FIRST: usize = BEACONS + LANES;
 const ROWS: usize = FIRST + ORDERS;
 
 // Where they stand in a row; those before are single ones.
@@ -25,9 +26,10 @@ pub struct State {
     /// The lanes that have a post, and those that are sources: bit i is lane i.
     pub posts: u8,
     pub sources: u8,
-    /// How many frames are on the air, and how many of them are beacons.
+    /// How many frames are on the air, and how many of them are beacons of each
+    /// lane's post, which may send 128.
     pub frames: u16,
-    pub beacons: u16,
+    pub beacons: [u16; LANES],
     /// The number of each order's first frame, at place 16 × lane + serial − 1;
     /// 0 where there is no order.
     pub first: [u16; ORDERS],
@@ -60,7 +62,7 @@ impl State {
             posts: narrow(cells[0])?,
             sources: narrow(cells[1])?,
             frames: cells[2],
-            beacons: cells[3],
+            beacons: wide_row(&cells[BEACONS..FIRST]),
             first: wide_row(&cells[FIRST..ROWS]),
             rows,
         })
@@ -142,7 +144,7 @@ mod tests {
             assert!(State::read(&cells).is_some(), "{at}");
             cells[at] = 0;
         }
-        assert_eq!(wide, 2 + 128 + 8 * (1 + 136 + 128 + 128));
+        assert_eq!(wide, 1 + 8 + 128 + 8 * (1 + 136 + 128 + 128));
     }
 
     #[test]
@@ -150,7 +152,7 @@ mod tests {
         let mut cells = [0; STATE_CELLS];
         cells[0] = 0b1000_0101;
         for lane in 0..8 {
-            cells[132 + 543 * lane] = lane as u16;
+            cells[139 + 543 * lane] = lane as u16;
         }
         let state = State::read(&cells).expect("a state");
         let lanes = state.yard_posts().map(|post: &Post| post.lane);

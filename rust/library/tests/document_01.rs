@@ -1,4 +1,5 @@
-//! The static libraries on the examples of document 01, as a host would call them.
+//! The static libraries on the examples of document 01 and of request K2, as a host
+//! would call them.
 
 use drift_library::{
     frame_check, frame_read, frame_write, run_script, script_state, BadScript, Heard, LastAnswer,
@@ -53,7 +54,7 @@ fn the_state_has_the_posts_and_the_last_answer() {
     let (state, answer) = after(SCRIPT);
     assert_eq!(answer, LastAnswer::Refused(25));
     assert_eq!((state.posts, state.sources), (0b111, 0b011));
-    assert_eq!((state.frames, state.beacons), (5, 0));
+    assert_eq!((state.frames, state.beacons), (5, [0; 8]));
     // The orders of lanes 0 and 1 are frames 0 and 2.
     assert_eq!((state.first[0], state.first[16]), (0, 2));
     let clocks = state.yard_posts().map(|post| post.clock);
@@ -93,6 +94,28 @@ fn each_answer_of_a_last_line_comes() {
         LastAnswer::Heard(Heard::Beacon(0))
     );
     assert_eq!(with("(roll)\n"), LastAnswer::RollCallRan(10));
+}
+
+/// A noisy post spends its own 128 beacons and none of another's.
+#[test]
+fn each_post_has_beacons_of_its_own() {
+    let mut script = b"(yard (0 both) (1 source) (2 dest))\n".to_vec();
+    script.extend(b"(beacon 0)\n".repeat(127));
+    for (line, expected, beacons) in [
+        ("(beacon 0)\n", LastAnswer::BeaconSent, [128, 0, 0]),
+        ("(beacon 0)\n", LastAnswer::Refused(27), [128, 0, 0]),
+        ("(beacon 1)\n", LastAnswer::BeaconSent, [128, 1, 0]),
+        ("(roll)\n", LastAnswer::Refused(27), [128, 1, 0]),
+        ("(beacon 2)\n", LastAnswer::BeaconSent, [128, 1, 1]),
+    ] {
+        script.extend(line.as_bytes());
+        let (state, answer) = after(&script);
+        assert_eq!(answer, expected, "{line}");
+        assert_eq!(
+            (&state.beacons[..3], &state.beacons[3..]),
+            (&beacons[..], &[0; 5][..])
+        );
+    }
 }
 
 #[test]

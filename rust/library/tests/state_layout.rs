@@ -9,13 +9,13 @@ use drift_library::{Row, State, STATE_CELLS};
 /// What `c/drift_script.h` says: the parts of a state, then those of a row, each
 /// with its first cell and how many it has.
 const DOCUMENTED: [(&str, usize, usize); 21] = [
-    ("state", 0, 4_476),
+    ("state", 0, 4_483),
     ("posts", 0, 1),
     ("sources", 1, 1),
     ("frames", 2, 1),
-    ("beacons", 3, 1),
-    ("first", 4, 128),
-    ("rows", 132, 8 * 543),
+    ("beacons", 3, 8),
+    ("first", 11, 128),
+    ("rows", 139, 8 * 543),
     ("row", 0, 543),
     ("row.lane", 0, 1),
     ("row.sources", 1, 1),
@@ -38,7 +38,7 @@ fn put(state: &mut State, name: &str, at: usize) {
         "posts" => state.posts = 1,
         "sources" => state.sources = 1,
         "frames" => state.frames = 1,
-        "beacons" => state.beacons = 1,
+        "beacons" => state.beacons[at] = 1,
         "first" => state.first[at] = 1,
         _ => panic!("there is no part {name}"),
     }
@@ -96,7 +96,7 @@ fn every_cell_is_read_in_rust_where_it_stands_in_c() {
             for at in 0..*count {
                 let mut expected = empty.clone();
                 put_in_row(&mut expected.rows[lane], name, at);
-                assert_read(132 + 543 * lane + first + at, expected);
+                assert_read(139 + 543 * lane + first + at, expected);
                 next += 1;
             }
         }

@@ -94,7 +94,7 @@ fn hearings() -> String {
     })
 }
 
-/// After 128 roll calls of 8 sources the beacons are spent.
+/// After 128 roll calls the beacons of each of the 8 sources are spent.
 fn roll_calls() -> String {
     filled(full_yard_with_orders(), SCRIPT_LIMIT, |_| ROLL_LINE.into())
 }
@@ -103,7 +103,7 @@ fn refused_hearings() -> String {
     filled(FULL_YARD.into(), SCRIPT_LIMIT, |n| hear_line(n % 8, 0))
 }
 
-/// 128 orders and 1,024 beacons; those that come later are refused.
+/// 128 orders and 1,024 beacons, 128 of each post; those that come later are refused.
 fn orders_and_beacons() -> String {
     filled(FULL_YARD.into(), SCRIPT_LIMIT, |n| match n % 2 {
         0 => order_line(n / 2 % 8, 10_000 + n),
@@ -171,11 +171,11 @@ mod tests {
     fn the_largest_scripts_do_what_their_rows_name() {
         assert_eq!(after(&hearings()).0.frames, 1_024);
         let (yard, last) = after(&roll_calls());
-        assert_eq!((yard.beacons, last), (1_024, LastAnswer::Refused(27)));
+        assert_eq!((yard.beacons, last), ([128; 8], LastAnswer::Refused(27)));
         let lines = refused_hearings().lines().count();
         assert_eq!(refusals(&refused_hearings(), 25), lines - 1);
         let (yard, _) = after(&orders_and_beacons());
-        assert_eq!((yard.beacons, yard.frames), (1_024, 1_152));
+        assert_eq!((yard.beacons, yard.frames), ([128; 8], 1_152));
     }
 
     #[test]

@@ -1,12 +1,16 @@
 //! How much of demand 3 was looked at.
 
 use crate::answer::{Answer, Answered, ANSWERS};
+use crate::scripts::step::Step;
 use std::fmt;
 
 #[derive(Debug, Default)]
 pub struct Tally {
     pub lists: u64,
     answers: [u64; ANSWERS.len()],
+    /// Beacon steps and roll calls that are refused by 27.
+    spent_beacons: u64,
+    spent_roll_calls: u64,
     /// Logs that were read, and of them those that are not empty, and those that
     /// are not yet all orders sent.
     logs: u64,
@@ -20,8 +24,11 @@ pub struct Tally {
 }
 
 impl Tally {
-    pub fn add_step(&mut self, answered: Answered) {
+    pub fn add_step(&mut self, step: Step, answered: Answered) {
         self.answers[answered.answer as usize] += 1;
+        let is_spent = answered.refusal == 27;
+        self.spent_beacons += u64::from(is_spent && step.is_beacon());
+        self.spent_roll_calls += u64::from(is_spent && step == Step::Roll);
     }
 
     pub fn add_log(&mut self, length: usize, sent: usize) {
@@ -41,7 +48,7 @@ impl Tally {
     }
 
     /// The counts with their names; each of them must be above 0.
-    fn counts(&self) -> [(&'static str, u64); 17] {
+    fn counts(&self) -> [(&'static str, u64); 19] {
         [
             ("lists of steps", self.lists),
             ("steps", self.answers.iter().sum()),
@@ -52,6 +59,8 @@ impl Tally {
             ("beacons heard", self.of(Answer::BeaconHeard)),
             ("beacons sent", self.of(Answer::BeaconSent)),
             ("refused steps", self.of(Answer::Refused)),
+            ("beacons refused by 27", self.spent_beacons),
+            ("roll calls refused by 27", self.spent_roll_calls),
             ("roll calls", self.of(Answer::RollCallRan)),
             ("their single steps", self.roll_call_steps),
             ("orders logged after them", self.orders_in_roll_calls),

@@ -7,7 +7,9 @@ use crate::library::Library;
 use crate::random::Random;
 use crate::scripts::step::{Step, YardLine};
 use crate::state::State;
+use drift_reference::frame::LANES;
 use drift_reference::yard::AIR_LENGTH;
+use std::array;
 
 pub struct Watch<'a> {
     library: &'a dyn Library,
@@ -64,7 +66,8 @@ impl<'a> Watch<'a> {
     pub fn start(&mut self) -> Result<(), String> {
         let now = Moment::after(self.library, &self.script, &self.first_air)?;
         let state = now.state();
-        let is_fresh = (state.frames(), state.beacons()) == (0, 0) && now.air == self.first_air;
+        let is_unsent = (state.frames(), state.beacons()) == (0, [0; LANES]);
+        let is_fresh = is_unsent && now.air == self.first_air;
         if !is_fresh || now.answered != Some(Answered::of(Answer::NoStep, 0)) {
             return Err("the yard is not fresh".into());
         }
@@ -83,9 +86,9 @@ impl<'a> Watch<'a> {
         let now = Moment::after(self.library, &self.script, &self.first_air)?;
         let answered = now.answered;
         let answered = answered.ok_or(format!("{step}: there is no answer of its code"))?;
-        self.tally.add_step(answered);
+        self.tally.add_step(step, answered);
         check_answer(step, answered)?;
-        self.check_growth(&before, &now, answered)?;
+        self.check_growth(step, answered, &before, &now)?;
         if let (Step::Order { lane, word }, Answer::OrderSent) = (step, answered.answer) {
             self.note_order(Order {
                 stamp: answered.stamp,
@@ -102,12 +105,14 @@ impl<'a> Watch<'a> {
         Ok(())
     }
 
-    /// A refused step leaves yard and air; the others broadcast as they answer.
+    /// A refused step leaves yard and air; the others broadcast as they answer, and
+    /// each beacon is counted at the post that sends it.
     fn check_growth(
-        &mut self,
+        &self,
+        step: Step,
+        answered: Answered,
         before: &Moment,
         now: &Moment,
-        answered: Answered,
     ) -> Result<(), String> {
         if answered.answer == Answer::Refused {
             return match now.has_yard_and_air_of(before) {
@@ -115,21 +120,22 @@ impl<'a> Watch<'a> {
                 false => Err("a refused step changed yard or air".into()),
             };
         }
-        let sources = self.yard.sources.count_ones();
         let newly_taken = now.taken(self.yard).wrapping_sub(before.taken(self.yard));
-        let (orders, beacons, taken) = match answered.answer {
-            Answer::OrderSent => (1, 0, 0),
-            Answer::Taken => (0, 0, 1),
-            Answer::BeaconSent => (0, 1, 0),
-            Answer::RollCallRan => (0, sources, newly_taken),
+        let (orders, senders, taken) = match (step, answered.answer) {
+            (_, Answer::OrderSent) => (1, 0, 0),
+            (_, Answer::Taken) => (0, 0, 1),
+            (Step::Beacon { lane }, _) => (0, 1u8.checked_shl(lane).unwrap_or(0), 0),
+            (Step::Roll, _) => (0, self.yard.sources, newly_taken),
             _ => (0, 0, 0),
         };
+        let beacons: [u32; LANES] = array::from_fn(|lane| u32::from(senders >> lane & 1));
+        let right = (orders + senders.count_ones() + taken, beacons, taken);
         let grown = |before: u16, now: u16| u32::from(now).wrapping_sub(before.into());
         let (old, new) = (before.state(), now.state());
-        let right = (orders + beacons + taken, beacons, taken);
+        let (sent, sent_now) = (old.beacons(), new.beacons());
         let came = (
             grown(old.frames(), new.frames()),
-            grown(old.beacons(), new.beacons()),
+            array::from_fn(|lane| grown(sent[lane], sent_now[lane])),
             newly_taken,
         );
         match came == right {

@@ -1,5 +1,6 @@
 //! Fixed scripts that reach each limit of document 01.
 
+use super::beacon_limits::{self, BEACONS};
 use super::case::Case;
 use super::damage::{with_line_ends, LINE_ENDS};
 use super::draft::{Draft, LONGEST_SCRIPT};
@@ -7,9 +8,6 @@ use super::pick::Plan;
 use super::step::{Step, YardLine};
 use super::texts;
 use crate::random::Random;
-
-/// The beacons that a yard may send.
-const BEACONS: u32 = 1_024;
 
 /// Scripts of the bench in document 01, and the smallest ones.
 const BENCH: [&str; 18] = [
@@ -50,7 +48,8 @@ const BENCH: [&str; 18] = [
 const WRONG_AIRS: [usize; 7] = [0, 1, 32, 65_504, 65_535, 65_537, 131_072];
 
 const WRONG_OUTPUTS: [usize; 5] = [0, 1, 131_071, 131_073, 262_144];
-const WRONG_STATES: [usize; 7] = [0, 1, 2_238, 4_475, 4_477, 8_952, 70_012];
+/// Also the length that a state had with one count of beacons.
+const WRONG_STATES: [usize; 8] = [0, 1, 2_241, 4_476, 4_482, 4_484, 8_966, 70_019];
 
 /// Bad scripts, by 2, 3, 4 and 5: a state of another length is judged before them.
 const BAD: [&str; 4] = [
@@ -64,32 +63,20 @@ const BAD: [&str; 4] = [
 pub fn cases() -> impl Iterator<Item = Case> {
     let bench = BENCH.into_iter().map(|text| text.as_bytes().to_vec());
     let limits: [fn() -> Vec<u8>; 3] = [all_orders, all_frames, longest_printout];
-    let yards = [one_post(0), one_post(7), all_posts(0xFF), all_posts(0)];
     let ends = (0..LINE_ENDS).map(|ends| with_line_ends(BENCH[0].as_bytes(), ends));
     let scripts = bench
         .chain(ends)
         .chain(texts::scripts())
+        .chain(beacon_limits::scripts())
         .chain(limits.into_iter().map(|script| script()))
-        .chain(yards.into_iter().map(all_beacons))
-        .chain((0..=8).flat_map(last_roll_calls))
         .chain(std::iter::once_with(longest_scripts).flatten());
     let cases = (0..).zip(scripts);
     let cases = cases.map(|(seed, script)| Case::new(script, seed));
     cases.chain(wrong_lengths())
 }
 
-/// Lane 0 to 7 alone, source and dest.
-fn one_post(lane: u8) -> YardLine {
-    let set = 1 << lane;
-    YardLine {
-        posts: set,
-        sources: set,
-        dests: set,
-    }
-}
-
 /// All eight posts are destinations.
-fn all_posts(sources: u8) -> YardLine {
+pub fn all_posts(sources: u8) -> YardLine {
     YardLine {
         posts: 0xFF,
         sources,
@@ -117,10 +104,9 @@ fn push_orders(draft: &mut Draft, orders: u32) {
 fn all_frames() -> Vec<u8> {
     let mut draft = Draft::new(all_posts(0xFF));
     push_orders(&mut draft, 16);
-    for _ in 0..BEACONS / 8 {
+    for _ in 0..=BEACONS {
         draft.push(Step::Roll);
     }
-    draft.push(Step::Roll);
     for lane in [0, 7] {
         draft.push(Step::Beacon { lane });
         draft.push(Step::Order { lane, word: 1 });
@@ -129,41 +115,6 @@ fn all_frames() -> Vec<u8> {
         }
     }
     draft.text
-}
-
-/// Beacon 1,024 passes, 1,025 is 27; a lane without a post is 21 even then.
-fn all_beacons(yard: YardLine) -> Vec<u8> {
-    let mut draft = Draft::new(yard);
-    let lane = yard.posts.trailing_zeros();
-    for _ in 0..=BEACONS {
-        draft.push(Step::Beacon { lane });
-    }
-    draft.push(Step::Beacon { lane: 7 - lane });
-    draft.push(Step::Roll);
-    draft.push(Step::Hear { lane, frame: 1_023 });
-    draft.push(Step::Hear {
-        lane: 7 - lane,
-        frame: 1_023,
-    });
-    draft.push(Step::Beacon { lane });
-    draft.text
-}
-
-/// With so many sources: beacons until as many as sources are left, so that a
-/// roll call still passes, and one more, so that it is 27 and a beacon passes.
-fn last_roll_calls(sources: u32) -> [Vec<u8>; 2] {
-    [0, 1].map(|more| {
-        let mut draft = Draft::new(all_posts((0xFF00u32 >> sources) as u8));
-        for lane in (0..8).cycle().take((BEACONS - sources + more) as usize) {
-            draft.push(Step::Beacon { lane });
-        }
-        draft.push(Step::Order { lane: 7, word: 9 });
-        draft.push(Step::Roll);
-        draft.push(Step::Roll);
-        draft.push(Step::Beacon { lane: 3 });
-        draft.push(Step::Roll);
-        draft.text
-    })
 }
 
 /// Full logs of large stamps and words at all posts, then refused roll calls up

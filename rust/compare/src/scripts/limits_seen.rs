@@ -2,9 +2,11 @@
 
 use super::case::{Case, Outcome};
 use super::draft::LONGEST_SCRIPT;
-use super::step::YardLine;
+use super::printed;
+use super::step::{Step, YardLine};
 use crate::answer::Answer;
 use crate::state::{State, STATE_CELLS};
+use drift_reference::frame::LANES;
 use drift_reference::script::OUTPUT_LENGTH;
 use drift_reference::yard::AIR_LENGTH;
 
@@ -17,7 +19,7 @@ pub struct Look<'a> {
 pub type Limit = (&'static str, fn(&Look) -> bool);
 
 /// The limits of document 01, and yards of all sizes and roles.
-pub const LIMITS: [Limit; 28] = [
+pub const LIMITS: [Limit; 27] = [
     ("the empty script", |look| look.case.script.is_empty()),
     ("a script of 48,000 bytes that runs", |look| {
         look.case.script.len() == LONGEST_SCRIPT && look.state().is_some()
@@ -50,9 +52,6 @@ pub const LIMITS: [Limit; 28] = [
         let state = look.state();
         state.is_some_and(|state| (0..8).any(|lane| state.post(lane).logged == 128))
     }),
-    ("1,024 beacons", |look| {
-        look.state().is_some_and(|state| state.beacons() == 1_024)
-    }),
     ("2,048 frames", |look| {
         look.state().is_some_and(|state| state.frames() == 2_048)
     }),
@@ -80,6 +79,54 @@ pub const LIMITS: [Limit; 28] = [
         let yard = look.yard();
         yard.is_some_and(|yard| yard.posts & !yard.sources & !yard.dests != 0)
     }),
+];
+
+/// The limits of request K2: 128 beacons of each post. Counts only grow, so a post
+/// that has some left at the end had some before.
+pub const BEACON_LIMITS: [Limit; 12] = [
+    ("127 beacons of a post", |look| {
+        look.beacons().is_some_and(|sent| sent.contains(&127))
+    }),
+    ("128 beacons of lane 0", |look| look.spent() & 0x01 != 0),
+    ("128 beacons of lane 3", |look| look.spent() & 0x08 != 0),
+    ("128 beacons of lane 7", |look| look.spent() & 0x80 != 0),
+    ("128 beacons of each of eight posts", |look| {
+        look.spent() == 0xFF
+    }),
+    (
+        "a beacon refused by 27 that another post has left",
+        |look| look.has_left(look.posts()) && look.refuses_by_27(Step::is_beacon),
+    ),
+    (
+        "a beacon sent after another post's was refused by 27",
+        |look| {
+            let last = look.last_step().filter(|_| look.has_sent_beacon());
+            last.is_some_and(|last| look.refuses_by_27(|step| step.is_beacon() && step != last))
+        },
+    ),
+    ("a roll call with the last beacon of a source", |look| {
+        look.steps() > Some(0) && look.spent() & look.sources() != 0
+    }),
+    (
+        "a roll call beside a spent post that is no source",
+        |look| look.steps() > Some(0) && look.spent() & !look.sources() != 0,
+    ),
+    ("a roll call without a source, all beacons spent", |look| {
+        look.steps() == Some(0) && look.spent() == 0xFF
+    }),
+    (
+        "a roll call refused by 27, other sources having some left",
+        |look| look.has_left(look.sources()) && look.refuses_by_27(|step| step == Step::Roll),
+    ),
+    (
+        "a roll call refused by 27, all of several sources spent",
+        |look| {
+            let sources = look.sources();
+            sources.count_ones() > 1
+                && look.spent() & sources == sources
+                && look.refuses_by_27(|step| step == Step::Roll)
+        },
+    ),
 ];
 
 /// Wrong lengths of what is lent.
@@ -118,9 +165,61 @@ impl<'a> Look<'a> {
         YardLine::read(first)
     }
 
+    /// The posts of a yard that ran, and its sources.
+    fn posts(&self) -> u8 {
+        self.yard().map_or(0, |yard| yard.posts)
+    }
+
+    fn sources(&self) -> u8 {
+        self.yard().map_or(0, |yard| yard.sources)
+    }
+
     fn has_posts(&self, number: u32) -> bool {
-        let yard = self.yard();
-        yard.is_some_and(|yard| yard.posts.count_ones() == number)
+        self.posts().count_ones() == number
+    }
+
+    /// How many beacons each post has sent.
+    fn beacons(&self) -> Option<[u16; LANES]> {
+        self.state().map(State::beacons)
+    }
+
+    /// The posts that have no beacon left.
+    fn spent(&self) -> u8 {
+        let sent = self.beacons().unwrap_or_default();
+        let spent = (0..LANES).filter(|&lane| sent[lane] == 128);
+        spent.map(|lane| 1 << lane).sum()
+    }
+
+    /// Whether some of the posts have beacons left, and others have none.
+    fn has_left(&self, posts: u8) -> bool {
+        let spent = self.spent() & posts;
+        spent != 0 && spent != posts
+    }
+
+    /// Whether the last line is a beacon that was sent.
+    fn has_sent_beacon(&self) -> bool {
+        self.outcome.answered.answer == Answer::BeaconSent
+    }
+
+    /// Whether such a step was refused by 27.
+    fn refuses_by_27(&self, is_such: impl Fn(Step) -> bool) -> bool {
+        let mut refused = self.refused_steps();
+        refused.any(|(step, number)| number == 27 && is_such(step))
+    }
+
+    /// The step of the last line.
+    pub fn last_step(&self) -> Option<Step> {
+        let text = self.case.script.strip_suffix(b"\n")?;
+        Step::read(text.rsplit(|&byte| byte == b'\n').next()?)
+    }
+
+    /// The refused steps with their numbers, as they are printed.
+    pub fn refused_steps(&self) -> impl Iterator<Item = (Step, usize)> + 'a {
+        let lines: Vec<&[u8]> = self.case.script.split(|&byte| byte == b'\n').collect();
+        printed::refused(&self.outcome.printout).map(move |(line, number)| {
+            let step = Step::read(lines[line - 1]).expect("a refused line is a step");
+            (step, number)
+        })
     }
 
     fn has_sent_all(&self, lane: usize) -> bool {

@@ -5,11 +5,12 @@ use super::damage;
 use super::draft::Draft;
 use super::pick::Plan;
 use super::step::Step;
+use crate::posts::made_up::{lane_in, subset};
 use crate::random::Random;
 use drift_reference::post::HearAnswer;
 
-/// The beacons that a yard may send.
-const BEACONS: u16 = 1_024;
+/// The beacons that a post may send.
+const BEACONS: u16 = 128;
 
 /// Lengths of the air that are refused by 13.
 const WRONG_AIRS: [usize; 6] = [0, 31, 64, 65_535, 65_537, 65_568];
@@ -42,7 +43,7 @@ pub fn case(seed: u64, number: u64) -> Case {
     }
     if random.one_in(200) {
         case.output_length = random.pick(&[131_071, 131_073]);
-        case.state_cells = random.pick(&[0, 4_475, 4_477]);
+        case.state_cells = random.pick(&[0, 4_482, 4_484]);
     }
     case
 }
@@ -77,17 +78,21 @@ fn draft(random: &mut Random, plan: &mut Plan) -> Draft {
     draft
 }
 
-/// Beacons until few or none are left.
+/// Beacons of one post, of some or of all, until few or none of theirs are left.
 fn spend_beacons(random: &mut Random, draft: &mut Draft, plan: &Plan) {
     for _ in 0..random.between(0, 10) {
         draft.push_picked(random, plan);
     }
-    let lanes: Vec<u32> = (0..8)
-        .filter(|lane| plan.yard.posts >> lane & 1 == 1)
-        .collect();
-    for _ in 0..random.between(BEACONS - 24, BEACONS + 1) {
-        let lane = random.pick(&lanes);
-        draft.push(Step::Beacon { lane });
+    let posts = plan.yard.posts;
+    let noisy = match random.between(0, 2) {
+        0 => lane_in(random, posts).map_or(0, |lane| 1 << lane),
+        1 => subset(random, posts),
+        _ => posts,
+    };
+    for lane in (0..8).filter(|lane| noisy >> lane & 1 == 1) {
+        for _ in 0..random.between(BEACONS - 3, BEACONS + 1) {
+            draft.push(Step::Beacon { lane });
+        }
     }
 }
 

@@ -1,7 +1,7 @@
 //! Makes a script smaller as long as it still shows what is sought.
 
 use super::draft::Draft;
-use super::step::{Step, YardLine};
+use super::step::{read_script, Step, YardLine};
 use crate::damage::lines;
 use std::ops::Range;
 use std::time::{Duration, Instant};
@@ -82,11 +82,7 @@ impl<Shows: FnMut(&[u8]) -> bool> Shrinker<Shows> {
     fn remove_posts(&mut self) {
         for lane in 0..8 {
             let left = !(1 << lane);
-            self.change_yard(|yard| YardLine {
-                posts: yard.posts & left,
-                sources: yard.sources & left,
-                dests: yard.dests & left,
-            });
+            self.change_yard(|yard| yard.only(left));
             self.change_yard(|yard| YardLine {
                 sources: yard.sources & left,
                 ..yard
@@ -190,11 +186,11 @@ fn renumbered(script: &[u8], lines: &[Range<usize>], removed: &Range<usize>) -> 
 /// How many frames are on the air after each line, as the second implementation
 /// runs them; nothing if a line is no step or the first is no yard.
 fn frames_after_lines(script: &[u8]) -> Option<Vec<u32>> {
-    let mut lines = script.strip_suffix(b"\n")?.split(|&byte| byte == b'\n');
-    let mut draft = Draft::new(YardLine::read(lines.next()?)?);
+    let (yard, steps) = read_script(script)?;
+    let mut draft = Draft::new(yard);
     let mut frames = vec![0];
-    for line in lines {
-        draft.push(Step::read(line)?);
+    for step in steps {
+        draft.push(step);
         frames.push(draft.frames());
     }
     Some(frames)

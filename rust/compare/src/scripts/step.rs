@@ -33,6 +33,10 @@ impl Step {
         }
     }
 
+    pub fn is_beacon(self) -> bool {
+        matches!(self, Step::Beacon { .. })
+    }
+
     /// The step of a line without its line feed, if it is written as one.
     pub fn read(line: &[u8]) -> Option<Step> {
         let text = std::str::from_utf8(line).ok()?;
@@ -92,6 +96,15 @@ impl YardLine {
         (yard.to_string() == text).then_some(yard)
     }
 
+    /// The yard with the posts of a set alone.
+    pub fn only(self, set: u8) -> YardLine {
+        YardLine {
+            posts: self.posts & set,
+            sources: self.sources & set,
+            dests: self.dests & set,
+        }
+    }
+
     pub fn role(self, lane: u32) -> &'static str {
         let has = |set: u8| set >> lane & 1 == 1;
         match (has(self.sources), has(self.dests)) {
@@ -113,9 +126,37 @@ impl Display for YardLine {
     }
 }
 
+/// The yard and the steps of a script, if it is a yard line with steps.
+pub fn read_script(script: &[u8]) -> Option<(YardLine, Vec<Step>)> {
+    let mut lines = script.strip_suffix(b"\n")?.split(|&byte| byte == b'\n');
+    let yard = YardLine::read(lines.next()?)?;
+    let steps: Option<Vec<Step>> = lines.map(Step::read).collect();
+    Some((yard, steps?))
+}
+
+/// The script of a yard and steps.
+pub fn write_script(yard: YardLine, steps: &[Step]) -> Vec<u8> {
+    let lines = steps.iter().map(|step| format!("{step}\n"));
+    format!("{yard}\n{}", lines.collect::<String>()).into_bytes()
+}
+
 #[cfg(test)]
 mod tests {
-    use super::{Step, YardLine};
+    use super::{read_script, write_script, Step, YardLine};
+
+    #[test]
+    fn scripts_are_read_and_written() {
+        let script = b"(yard (1 relay))\n(beacon 1)\n(roll)\n";
+        let (yard, steps) = read_script(script).expect("a script");
+        assert_eq!(steps, [Step::Beacon { lane: 1 }, Step::Roll]);
+        assert_eq!(write_script(yard, &steps), script);
+        let alone = b"(yard (1 relay))\n";
+        assert_eq!(read_script(alone), Some((yard, Vec::new())));
+        let bad: [&[u8]; 3] = [b"", b"(roll)\n", b"(yard (1 relay))\n(roll)"];
+        for bad in bad {
+            assert_eq!(read_script(bad), None);
+        }
+    }
 
     #[test]
     fn steps_are_written_and_read() {

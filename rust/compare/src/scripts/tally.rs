@@ -1,8 +1,9 @@
 //! How often each answer, refusal, size and limit of scripts came.
 
 use super::case::{Case, Outcome};
-use super::limits_seen::{Limit, Look, LENGTHS, LIMITS};
-use super::step::{Step, STEPS};
+use super::limits_seen::{Limit, Look, BEACON_LIMITS, LENGTHS, LIMITS};
+use super::printed;
+use super::step::STEPS;
 use crate::answer::{Answer, ANSWERS, CODES};
 use std::fmt;
 
@@ -43,6 +44,7 @@ pub struct Tally {
     last: ByStep,
     printed: ByStep,
     limits: [u64; LIMITS.len()],
+    beacon_limits: [u64; BEACON_LIMITS.len()],
     lengths: [u64; LENGTHS.len()],
 }
 
@@ -51,28 +53,21 @@ impl Tally {
     pub fn add(&mut self, case: &Case, outcome: &Outcome) {
         let size = SIZES.iter().position(|&end| case.script.len() <= end);
         self.sizes[size.expect("a length has a size")] += 1;
-        let lines = lines(&case.script);
         let answered = outcome.answered;
         self.answers[answered.answer as usize] += 1;
         self.delivering[answered.answer as usize] += u64::from(answered.count > 0);
-        let last = lines.last().copied().and_then(Step::read);
-        if let (Some(step), true) = (last, answered.has_run()) {
+        let look = Look { case, outcome };
+        if let (Some(step), true) = (look.last_step(), answered.has_run()) {
             self.last[step.kind()][usize::from(answered.refusal)] += 1;
         }
-        for refused in outcome.printout.split(|&byte| byte == b'\n') {
-            match numbers_after(refused, "(refused ") {
-                Some((line, number)) => {
-                    let step = Step::read(lines[line - 1]).expect("a refused line is a step");
-                    self.printed[step.kind()][number] += 1;
-                }
-                None => {
-                    let bad = numbers_after(refused, "(bad ");
-                    self.bad[bad.map_or(0, |(_, number)| number)] += 1;
-                }
-            }
+        for (step, number) in look.refused_steps() {
+            self.printed[step.kind()][number] += 1;
         }
-        let look = Look { case, outcome };
-        let counts = self.limits.iter_mut().chain(&mut self.lengths);
+        if let Some((_, number)) = printed::bad(&outcome.printout) {
+            self.bad[number] += 1;
+        }
+        let counts = self.limits.iter_mut().chain(&mut self.beacon_limits);
+        let counts = counts.chain(&mut self.lengths);
         for (count, (_, is_reached)) in counts.zip(limits()) {
             *count += u64::from(is_reached(&look));
         }
@@ -111,7 +106,8 @@ impl Tally {
         let bad = bad.map(|(number, count)| (count, format!("a script that is bad by {number}")));
         let sizes = self.sizes.into_iter().zip(SIZES);
         let sizes = sizes.map(|(count, end)| (count, format!("a script of up to {end} bytes")));
-        let limits = self.limits.into_iter().chain(self.lengths).zip(limits());
+        let counts = self.limits.into_iter().chain(self.beacon_limits);
+        let limits = counts.chain(self.lengths).zip(limits());
         let limits = limits.map(|(count, (name, _))| (count, name.to_string()));
         bad.chain(sizes).chain(limits).collect()
     }
@@ -173,19 +169,5 @@ impl fmt::Display for Tally {
 
 /// The limits and lengths that must be reached.
 fn limits() -> impl Iterator<Item = Limit> {
-    LIMITS.into_iter().chain(LENGTHS)
-}
-
-/// The lines without their line feeds.
-fn lines(script: &[u8]) -> Vec<&[u8]> {
-    let whole = script.strip_suffix(b"\n").unwrap_or(script);
-    whole.split(|&byte| byte == b'\n').collect()
-}
-
-/// The two numbers of a printed line that starts so.
-fn numbers_after(line: &[u8], start: &str) -> Option<(usize, usize)> {
-    let text = std::str::from_utf8(line).ok()?;
-    let inside = text.strip_prefix(start)?.strip_suffix(')')?;
-    let (line, number) = inside.split_once(' ')?;
-    Some((line.parse().ok()?, number.parse().ok()?))
+    LIMITS.into_iter().chain(BEACON_LIMITS).chain(LENGTHS)
 }

@@ -82,6 +82,23 @@ fn states_laid_out_in_another_way_are_noticed() {
 }
 
 #[test]
+fn wrong_counts_of_beacons_are_noticed() {
+    let from_lane_7 = misstates(|state| state[BEACONS..FIRST].reverse());
+    assert_noticed("the counts stand from lane 7 on", "state", from_lane_7);
+    let one_count = misstates(|state| {
+        let sent = state[BEACONS..FIRST].iter().sum();
+        state[BEACONS..FIRST].fill(0);
+        state[BEACONS] = sent;
+    });
+    assert_noticed("the yard has one count", "state", one_count);
+    let last = misstates(|state| {
+        let counts = state[BEACONS..FIRST].iter_mut();
+        counts.for_each(|count| *count = (*count).min(127));
+    });
+    assert_noticed("128 beacons are counted as 127", "state", last);
+}
+
+#[test]
 fn wrong_knowledge_of_the_log_is_noticed() {
     let none = misstates(|state| rows(state).for_each(|row| row[KNOWN..TABLE].fill(0)));
     assert_noticed("nothing is known", "state", none);

@@ -22,8 +22,8 @@ pub const NOT_ON_AIR: u8 = 25;
 /// Refusal 27: beacons spent.
 pub const BEACONS_SPENT: u8 = 27;
 
-/// Beacons that a yard may send.
-pub const BEACONS_ALLOWED: u16 = 1_024;
+/// Beacons that each post may send in a yard; one run singly has no limit.
+pub const BEACONS_ALLOWED: u16 = 128;
 
 /// A yard. The steps keep it such that every record would pass refusal 12.
 #[derive(Clone, Debug, PartialEq, Eq)]
@@ -36,8 +36,8 @@ pub struct Yard {
     pub posts: [Post; LANES],
     /// How many frames have been broadcast.
     pub frames: u16,
-    /// How many of them are beacons.
-    pub beacons: u16,
+    /// How many of them are beacons of each lane's post.
+    pub beacons: [u16; LANES],
     /// For each order, at 16 × lane + serial − 1, the number of its first frame.
     pub first: [u16; ORDERS],
 }
@@ -57,7 +57,7 @@ impl Yard {
             dests,
             posts: std::array::from_fn(|lane| Post::new(lane as u8, present, sources, dests)),
             frames: 0,
-            beacons: 0,
+            beacons: [0; LANES],
             first: [0; ORDERS],
         })
     }

@@ -1,17 +1,18 @@
 //! The roll call: hearings and beacons, run one after another.
 
 use super::air::{whole_air, Air};
-use super::{Yard, BEACONS_ALLOWED, BEACONS_SPENT};
+use super::Yard;
 use crate::frame::{Serial, LANES};
 use crate::post::{holds, order_place};
 
 impl Yard {
-    /// Runs a roll call; gives the number of single steps. Refused by 13, 27.
+    /// Runs a roll call; gives the number of single steps. Refused by 13, and by
+    /// 27 if some source has no beacon left.
     pub fn roll_call(&mut self, air: &mut [u8]) -> Result<u16, u8> {
         let air = whole_air(air)?;
         let sources = self.sources.count_ones() as u16;
-        if self.beacons + sources > BEACONS_ALLOWED {
-            return Err(BEACONS_SPENT);
+        for lane in lanes(self.sources) {
+            self.judge_beacons(lane.into())?;
         }
         let orders_heard = self.hear_first_frames(air);
         let first_beacon = usize::from(self.frames);

@@ -33,11 +33,18 @@ impl Yard {
         judge_lane(lane)?;
         let air = whole_air(air)?;
         self.posts[lane].judge_membership()?;
-        if self.beacons >= BEACONS_ALLOWED {
-            return Err(BEACONS_SPENT);
-        }
+        self.judge_beacons(lane)?;
         self.send_beacon(air, lane);
         Ok(())
+    }
+
+    /// Refusal 27: the post of a lane has no beacon left, whatever others have.
+    pub(super) fn judge_beacons(&self, lane: usize) -> Result<(), u8> {
+        if self.beacons[lane] < BEACONS_ALLOWED {
+            Ok(())
+        } else {
+            Err(BEACONS_SPENT)
+        }
     }
 
     /// Hears a frame that is on the air. The frame is judged as at a post run
@@ -64,7 +71,7 @@ impl Yard {
     pub(super) fn send_beacon(&mut self, air: &mut Air, lane: usize) {
         self.posts[lane].send_beacon(&mut air[usize::from(self.frames)]);
         self.frames += 1;
-        self.beacons += 1;
+        self.beacons[lane] += 1;
     }
 }
 

@@ -1,4 +1,5 @@
-//! The yard bench of document 01: scripts with their whole printouts, and frames.
+//! The yard bench of document 01, K2's case of beacons in it: scripts with their
+//! whole printouts, and frames.
 
 use super::{first_lines, fresh_air, printed, printed_over, ran, SCRIPT};
 use drift_reference::frame::{check, Frame, Serial};
@@ -165,12 +166,16 @@ fn the_sixteenth_order_and_the_seventeenth() {
 }
 
 #[test]
-fn beacon_1_024_and_beacon_1_025() {
-    let mut script = String::from("(yard (0 relay))\n") + &"(beacon 0)\n".repeat(1_024);
-    let post = "(post 0 (clock 0) (sent 0) (log))\n";
-    assert_eq!(printed(&script), post);
+fn beacon_128_and_beacon_129() {
+    let mut script = String::from("(yard (0 relay) (1 relay))\n") + &"(beacon 0)\n".repeat(128);
+    let posts = "(post 0 (clock 0) (sent 0) (log))\n(post 1 (clock 0) (sent 0) (log))\n";
+    assert_eq!(printed(&script), posts);
     assert_eq!(ran(&script).1, Beacon);
     script += "(beacon 0)\n";
-    assert_eq!(printed(&script), format!("(refused 1026 27)\n{post}"));
+    assert_eq!(printed(&script), format!("(refused 130 27)\n{posts}"));
     assert_eq!(ran(&script).1, Refused(27));
+    // The other post is still granted its own.
+    script += "(beacon 1)\n";
+    assert_eq!(printed(&script), format!("(refused 130 27)\n{posts}"));
+    assert_eq!(ran(&script).1, Beacon);
 }

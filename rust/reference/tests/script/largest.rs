@@ -42,12 +42,12 @@ fn the_only_flaw_is_the_last_byte_or_the_last_line() {
     assert_bad(other, lines, 2);
 }
 
-/// Every step of one post's yard after the 1,024 beacons is refused.
+/// Every step of one post's yard after its 128 beacons is refused.
 #[test]
 fn the_refusals_of_a_long_script_are_all_printed() {
     let script = fill("(yard (0 both))\n".to_owned());
     let lines = script.lines().count();
-    let mut expected: String = (1_026..=lines)
+    let mut expected: String = (130..=lines)
         .map(|line| format!("(refused {line} 27)\n"))
         .collect();
     expected += "(post 0 (clock 0) (sent 0) (log))\n";

@@ -190,5 +190,5 @@ fn a_script_of_the_yard_line_alone() {
     assert_eq!(answer, LastAnswer::YardMade);
     let sets = (yard.present, yard.sources, yard.dests);
     assert_eq!(sets, (0b1100_1010, 0b1000_0010, 0b1100_0000));
-    assert_eq!((yard.frames, yard.beacons), (0, 0));
+    assert_eq!((yard.frames, yard.beacons), (0, [0; 8]));
 }

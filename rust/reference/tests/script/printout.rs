@@ -49,12 +49,13 @@ fn refused_lines_come_first_in_the_order_of_the_script() {
 #[test]
 fn a_refused_roll_call_is_printed_too() {
     let script = String::from("(yard (0 both) (1 both))\n")
-        + &"(beacon 0)\n".repeat(1_023)
-        + "(roll)\n(beacon 1)\n(beacon 1)\n(roll)\n";
+        + &"(beacon 0)\n".repeat(128)
+        + "(roll)\n(beacon 1)\n(beacon 0)\n(roll)\n";
+    // Lines 2 to 129 spend the beacons of post 0; post 1 still has its own.
     let expected = "\
-(refused 1025 27)
-(refused 1027 27)
-(refused 1028 27)
+(refused 130 27)
+(refused 132 27)
+(refused 133 27)
 (post 0 (clock 0) (sent 0) (log))
 (post 1 (clock 0) (sent 0) (log))
 ";

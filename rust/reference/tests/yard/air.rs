@@ -90,7 +90,7 @@ fn the_fullest_air() {
         assert_eq!(world.yard.posts[lane].logged, 128);
         world.beacon(lane);
     }
-    assert_eq!((world.yard.frames, world.yard.beacons), (2_048, 1_024));
+    assert_eq!((world.yard.frames, world.yard.beacons), (2_048, [128; 8]));
     assert_eq!(world.place(2_047)[..2], [2, 7]);
     let World { yard, air } = &world;
     assert_eq!(yard.frame_on_air(air, 2_047), &air[65_504..]);
@@ -107,7 +107,9 @@ fn the_fullest_air() {
         }
     }
     assert!(world == before, "nothing new was said");
-    assert_eq!(world.run(Step::Beacon(0)), Err(27));
+    for lane in 0..8 {
+        assert_eq!(world.run(Step::Beacon(lane)), Err(27));
+        assert_eq!(world.run(Step::Order(lane, 0)), Err(23));
+    }
     assert_eq!(world.run(Step::Roll), Err(27));
-    assert_eq!(world.run(Step::Order(0, 0)), Err(23));
 }

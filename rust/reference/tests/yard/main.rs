@@ -1,7 +1,9 @@
-//! Tests of the yard's steps against document 01.
+//! Tests of the yard's steps against document 01 and request K2.
 
 mod air;
+mod beacons;
 mod claims;
+mod grants;
 mod precedence;
 mod refusals;
 mod roll_call;

@@ -17,9 +17,10 @@ fn with_short_air(mut world: World) -> World {
     world
 }
 
+/// The same with all beacons of lane 0 spent.
 fn spent(mut world: World) -> World {
-    for _ in 0..1_024 {
-        world.beacon(2);
+    for _ in 0..128 {
+        world.beacon(0);
     }
     world
 }

@@ -1,4 +1,5 @@
-//! Each refusal of a yard's steps; `World::run` compares yard and air.
+//! Each refusal of a yard's steps but 27 (`beacons.rs`); `World::run` compares yard
+//! and air.
 
 use super::{Step, World};
 
@@ -102,36 +103,5 @@ fn refusal_26_own_broadcast() {
             assert_eq!(answer.is_err(), lane == sender, "hear {lane} {frame}");
             assert!(answer.is_ok() || answer == Err(26));
         }
-    }
-}
-
-#[test]
-fn refusal_27_beacons_spent() {
-    let mut world = World::fresh(0b111, 0b011, 0b100);
-    for sent in 0..1_024 {
-        assert_eq!(world.yard.beacons, sent);
-        world.beacon(usize::from(sent % 3));
-    }
-    for lane in 0..3 {
-        assert_eq!(world.run(Step::Beacon(lane)), Err(27));
-    }
-    assert_eq!(world.run(Step::Roll), Err(27));
-    world.order(0, 1);
-    world.hear(1, 1_024);
-}
-
-#[test]
-fn refusal_27_of_a_roll_call_with_fewer_than_s_left() {
-    for (sources, s) in [(0xFF, 8), (0x0F, 4), (0x80, 1)] {
-        let mut world = World::fresh(0xFF, sources, 0xFF);
-        for _ in 0..1_024 - s {
-            world.beacon(3);
-        }
-        let mut one_more = world.clone();
-        one_more.beacon(0);
-        assert_eq!(one_more.run(Step::Roll), Err(27));
-        assert_eq!(world.roll_call(), 8 * s);
-        assert_eq!(world.yard.beacons, 1_024);
-        assert_eq!(world.run(Step::Roll), Err(27));
     }
 }

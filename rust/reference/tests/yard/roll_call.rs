@@ -85,16 +85,15 @@ fn the_counts_of_some_yards() {
 #[test]
 fn with_no_source_there_are_no_steps() {
     let mut world = World::fresh(0xFF, 0, 0x0F);
-    for sent in [0, 1_023, 1] {
+    for sent in [0, 127, 1] {
         for _ in 0..sent {
             world.beacon(5);
         }
         let before = world.clone();
-        // Not even when all 1,024 beacons are spent.
+        // Not even when a post's 128 beacons are spent.
         assert_eq!(roll_call(&mut world), 0);
         assert!(world == before);
     }
-    assert_eq!(world.yard.beacons, 1_024);
 }
 
 #[test]
@@ -107,7 +106,8 @@ fn relays_hear_and_pass_on() {
         assert_eq!(world.yard.posts[lane].last[0], 2);
     }
     // Two orders, each passed on by three posts, and one beacon, the last frame.
-    assert_eq!((world.yard.frames, world.yard.beacons), (9, 1));
+    assert_eq!(world.yard.frames, 9);
+    assert_eq!(world.yard.beacons, [1, 0, 0, 0, 0, 0, 0, 0]);
     let heads: Vec<_> = (0..9).map(|frame| &world.place(frame)[..4]).collect();
     let mut expected = vec![[1, 0, 0, 1], [1, 0, 0, 2]];
     for lane in 1..4 {
@@ -143,8 +143,8 @@ fn after_random_steps_it_does_what_its_list_does() {
             let step = random.step(&world);
             let _ = world.run(step);
         }
-        let sources = world.yard.sources.count_ones() as u16;
-        if world.yard.beacons + sources <= 1_024 {
+        let has_left = |&lane: &usize| world.yard.beacons[lane] < 128;
+        if lanes(world.yard.sources).iter().all(has_left) {
             roll_call(&mut world);
         }
     }

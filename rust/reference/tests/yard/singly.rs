@@ -8,7 +8,7 @@ use drift_reference::yard::Yard;
 struct Singles {
     posts: Vec<Post>,
     frames: Vec<[u8; 32]>,
-    beacons: u16,
+    beacons: [u16; 8],
 }
 
 impl Singles {
@@ -16,7 +16,7 @@ impl Singles {
         Singles {
             posts: yard.posts.to_vec(),
             frames: Vec::new(),
-            beacons: 0,
+            beacons: [0; 8],
         }
     }
 
@@ -39,10 +39,10 @@ impl Singles {
             }
             Step::Beacon(lane) => {
                 self.posts[lane].beacon(&mut buffer)?;
-                if self.beacons == 1_024 {
+                if self.beacons[lane] == 128 {
                     return Err(27);
                 }
-                self.beacons += 1;
+                self.beacons[lane] += 1;
                 Answer::Sent
             }
             Step::Roll => unreachable!("only single steps"),

@@ -18,7 +18,8 @@ fn order_answer(serial: u8, stamp: u16, count: u8) -> OrderAnswer {
 fn a_fresh_yard_has_fresh_records_at_all_lanes() {
     let yard = Yard::fresh(0xB1, 0x11, 0xA0).expect("a good yard");
     assert_eq!((yard.present, yard.sources, yard.dests), (0xB1, 0x11, 0xA0));
-    assert_eq!((yard.frames, yard.beacons, yard.first), (0, 0, [0; 128]));
+    assert_eq!((yard.frames, yard.beacons), (0, [0; 8]));
+    assert_eq!(yard.first, [0; 128]);
     for (lane, post) in (0..).zip(&yard.posts) {
         let mut expected = Post::EMPTY;
         expected.lane = lane;
@@ -54,7 +55,7 @@ fn the_steps_of_document_01_and_their_answers() {
     assert_eq!(world.log(0), [(1, 0, 417), (3, 1, 90)]);
     assert_eq!(world.log(1), []);
     assert_eq!(world.log(2), [(1, 0, 417)]);
-    assert_eq!((world.yard.frames, world.yard.beacons), (5, 0));
+    assert_eq!((world.yard.frames, world.yard.beacons), (5, [0; 8]));
     assert_eq!(world.yard.first[16], 2);
     let others = world.yard.first.iter().filter(|&&first| first != 0);
     assert_eq!(others.count(), 1, "the first order is frame 0");
@@ -87,7 +88,8 @@ fn only_broadcasts_write_to_the_air_and_only_into_their_place() {
     check(&world, 3..5);
     assert_eq!(world.hear(2, 4), Early(0));
     check(&world, 0..0);
-    assert_eq!((world.yard.frames, world.yard.beacons), (5, 1));
+    assert_eq!(world.yard.frames, 5);
+    assert_eq!(world.yard.beacons, [0, 0, 1, 0, 0, 0, 0, 0]);
     assert!(world.air[32 * 5..].iter().all(|&byte| byte == UNTOUCHED));
 }
 
@@ -150,7 +152,7 @@ fn the_first_frames_are_remembered_for_each_order() {
         }
     }
     // Each order, its relay and a beacon.
-    assert_eq!((world.yard.frames, world.yard.beacons), (384, 128));
+    assert_eq!((world.yard.frames, world.yard.beacons), (384, [16; 8]));
     for (place, &first) in world.yard.first.iter().enumerate() {
         let frame = world.place(first.into());
         let (lane, serial) = (place as u8 / 16, place as u8 % 16 + 1);
@@ -182,5 +184,6 @@ fn any_role_sends_beacons() {
         world.beacon(lane);
         assert_eq!(world.place(lane - 4)[..2], [2, lane as u8]);
     }
-    assert_eq!((world.yard.frames, world.yard.beacons), (4, 4));
+    assert_eq!(world.yard.frames, 4);
+    assert_eq!(world.yard.beacons, [0, 0, 0, 0, 1, 1, 1, 1]);
 }

@@ -12,12 +12,13 @@ use std::process::{Command, Stdio};
 const SEED: &str = "1";
 
 /// The parts with the number of their inputs; these notice each edit early.
-const PARTS: [(&str, &str); 5] = [
+const PARTS: [(&str, &str); 6] = [
     ("frames", "2000"),
     ("posts", "20000"),
     ("scripts", "400"),
     ("second-lists", "60"),
     ("csv", "400"),
+    ("second-grants", "60"),
 ];
 
 /// The manifest of the copy. Little time for each build counts most there.

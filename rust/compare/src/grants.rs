@@ -6,7 +6,7 @@ mod lists;
 mod tally;
 
 use crate::library::Library;
-use crate::list_faults::{check_lists, smallest_list, Found, ListFault};
+use crate::list_faults::{check_lists, smallest_list, Found, ListFault, Numbered};
 use crate::random::Random;
 use crate::scripts::printed;
 use crate::scripts::step::{read_script, write_script, Step, YardLine};
@@ -22,12 +22,10 @@ pub type Fault = ListFault<u32>;
 /// Checks random lists, as `check_lists` tells.
 pub fn check(
     library: &dyn Library,
-    seed: u64,
-    first: u64,
-    count: u64,
+    lists: Numbered,
     progress: impl FnMut(u64),
 ) -> Result<Tally, Box<Fault>> {
-    check_lists(seed, first, count, progress, |random, tally| {
+    check_lists(lists, progress, |random, tally| {
         check_list(library, random, tally)
     })
 }

@@ -27,22 +27,48 @@ impl<With> Display for ListFault<With> {
     }
 }
 
+/// What was counted over lists.
+pub trait Counts: Default {
+    /// The counts with their names; each of them must be above 0.
+    fn counts(&self) -> Vec<(&'static str, u64)>;
+
+    /// What never came, so that nothing is checked for it.
+    fn never_came(&self) -> Vec<String> {
+        let never = self.counts().into_iter().filter(|&(_, count)| count == 0);
+        never.map(|(name, _)| name.to_string()).collect()
+    }
+
+    /// A line for each count.
+    fn lines(&self) -> String {
+        let counts = self.counts().into_iter();
+        counts
+            .map(|(name, count)| format!("{name:<30}{count:>12}\n"))
+            .collect()
+    }
+}
+
+/// Which random lists: `count` of this seed, from number `first` on.
+#[derive(Clone, Copy)]
+pub struct Numbered {
+    pub seed: u64,
+    pub first: u64,
+    pub count: u64,
+}
+
 /// What was found of one list: what it was checked with, its script, what is wrong.
 pub type Found<With> = (With, Vec<u8>, String);
 
-/// Checks `count` random lists from number `first` on; stops at the first fault.
-/// `progress` is told of each number before its list runs.
-pub fn check_lists<Tally: Default, With>(
-    seed: u64,
-    first: u64,
-    count: u64,
+/// Checks these random lists; stops at the first fault. `progress` is told of each
+/// number before its list runs.
+pub fn check_lists<Tally: Counts, With>(
+    lists: Numbered,
     mut progress: impl FnMut(u64),
     mut check: impl FnMut(&mut Random, &mut Tally) -> Result<(), Found<With>>,
 ) -> Result<Tally, Box<ListFault<With>>> {
     let mut tally = Tally::default();
-    for number in first..first.saturating_add(count) {
+    for number in lists.first..lists.first.saturating_add(lists.count) {
         progress(number);
-        let found = check(&mut Random::numbered(seed, number), &mut tally);
+        let found = check(&mut Random::numbered(lists.seed, number), &mut tally);
         found.map_err(|(with, script, what)| {
             Box::new(ListFault {
                 number,

@@ -6,7 +6,7 @@ mod tally;
 mod watch;
 
 use crate::library::Library;
-use crate::list_faults::{check_lists, smallest_list, ListFault};
+use crate::list_faults::{check_lists, smallest_list, ListFault, Numbered};
 use crate::posts::made_up::lane_in;
 use crate::random::Random;
 use crate::scripts::pick::{Plan, Sight};
@@ -30,12 +30,10 @@ pub type Fault = ListFault<u64>;
 /// Checks random lists, as `check_lists` tells.
 pub fn check(
     library: &dyn Library,
-    seed: u64,
-    first: u64,
-    count: u64,
+    lists: Numbered,
     progress: impl FnMut(u64),
 ) -> Result<Tally, Box<Fault>> {
-    check_lists(seed, first, count, progress, |random, tally| {
+    check_lists(lists, progress, |random, tally| {
         let air = random.bits();
         let checked = check_list(library, random, air, tally);
         checked.map_err(|(script, what)| (air, script, what))

@@ -2,6 +2,7 @@
 
 use crate::arguments::{Part, Task};
 use crate::library::{Library, Proved};
+use crate::list_faults::{Counts, ListFault, Numbered};
 use crate::second::Second;
 use crate::{csv, frames, grants, lists, posts, report, scripts};
 use std::fmt::Display;
@@ -88,30 +89,47 @@ fn compare_scripts(library: &dyn Library, task: Task) -> bool {
 }
 
 fn check_lists(library: &dyn Library, task: Task) -> bool {
-    let progress = |number| tell(task, number, LISTS_BETWEEN, "lists");
-    match lists::check(library, task.seed, task.first, task.count, progress) {
-        Ok(tally) => {
-            tell_held("lists: demand 3", task);
-            print_and_judge(&tally, tally.never_came())
-        }
-        Err(fault) => {
-            tell_failed("lists: demand 3", task, fault.number);
-            print!("{}", lists::smallest(library, fault));
-            false
-        }
-    }
+    let checked = lists::check(library, numbered(task), |number| tell_lists(task, number));
+    tell_checked("lists: demand 3", task, checked, |fault| {
+        lists::smallest(library, fault)
+    })
 }
 
 fn check_grants(library: &dyn Library, task: Task) -> bool {
-    let progress = |number| tell(task, number, LISTS_BETWEEN, "lists");
-    match grants::check(library, task.seed, task.first, task.count, progress) {
+    let checked = grants::check(library, numbered(task), |number| tell_lists(task, number));
+    tell_checked("grants: request K2's promise", task, checked, |fault| {
+        grants::smallest(library, fault)
+    })
+}
+
+fn numbered(task: Task) -> Numbered {
+    Numbered {
+        seed: task.seed,
+        first: task.first,
+        count: task.count,
+    }
+}
+
+fn tell_lists(task: Task, number: u64) {
+    tell(task, number, LISTS_BETWEEN, "lists");
+}
+
+/// Prints how a promise went on lists of steps: the counts and what never came, or
+/// the fault, made as small as can be.
+fn tell_checked<Tally: Counts, With>(
+    promise: &str,
+    task: Task,
+    checked: Result<Tally, Box<ListFault<With>>>,
+    smallest: impl Fn(Box<ListFault<With>>) -> Box<ListFault<With>>,
+) -> bool {
+    match checked {
         Ok(tally) => {
-            tell_held("grants: request K2's promise", task);
-            print_and_judge(&tally, tally.never_came())
+            tell_held(promise, task);
+            print_and_judge(&tally.lines(), tally.never_came())
         }
         Err(fault) => {
-            tell_failed("grants: request K2's promise", task, fault.number);
-            print!("{}", grants::smallest(library, fault));
+            tell_failed(promise, task, fault.number);
+            print!("{}", smallest(fault));
             false
         }
     }

@@ -3,6 +3,7 @@
 
 use crate::grants::{check, smallest, Fault, Tally};
 use crate::library::Library;
+use crate::list_faults::{Counts, Numbered};
 use crate::patched::Patched;
 use crate::scripts::step::{read_script, Step, YardLine};
 use crate::second::Second;
@@ -11,7 +12,12 @@ const SEED: u64 = 1;
 const COUNT: u64 = 60;
 
 fn checked(library: &dyn Library) -> Result<Tally, Box<Fault>> {
-    check(library, SEED, 0, COUNT, |_| {})
+    let lists = Numbered {
+        seed: SEED,
+        first: 0,
+        count: COUNT,
+    };
+    check(library, lists, |_| {})
 }
 
 #[test]

@@ -5,6 +5,7 @@ mod beacons;
 use crate::answer::{Answer, Answered};
 use crate::layout::{cells_of, CLOCK, LOG, LOGGED, ROW_CELLS, STAMPS, WORDS};
 use crate::library::Library;
+use crate::list_faults::{Counts, Numbered};
 use crate::lists::{check, smallest, Fault, Tally};
 use crate::patched::Patched;
 use crate::second::Second;
@@ -14,7 +15,12 @@ const SEED: u64 = 1;
 const COUNT: u64 = 60;
 
 fn checked(library: &dyn Library) -> Result<Tally, Box<Fault>> {
-    check(library, SEED, 0, COUNT, |_| {})
+    let lists = Numbered {
+        seed: SEED,
+        first: 0,
+        count: COUNT,
+    };
+    check(library, lists, |_| {})
 }
 
 /// What a script left: the state and the last line's answer.

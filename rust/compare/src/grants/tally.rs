@@ -1,7 +1,7 @@
 //! How much of request K2's promise was looked at.
 
+use crate::list_faults::Counts;
 use crate::scripts::step::Step;
-use std::fmt;
 
 /// More beacon steps than all posts together may send.
 const NOISY: usize = 1_024;
@@ -51,28 +51,6 @@ impl Tally {
         self.shorter += u64::from(after < before);
         self.longer += u64::from(after > before);
     }
-
-    /// The counts with their names; each of them must be above 0.
-    fn counts(&self) -> [(&'static str, u64); 10] {
-        [
-            ("lists of steps", self.lists),
-            ("steps", self.steps),
-            ("beacons of a post sent", self.sent),
-            ("refused by 27", self.spent),
-            ("refused by 21", self.not_in_yard),
-            ("sent after another's 27", self.sent_after_others),
-            ("others' beacons refused by 27", self.spent_by_others),
-            ("over 1,024 beacons of others", self.noisy_lists),
-            ("fewer beacons of others", self.shorter),
-            ("more beacons of others", self.longer),
-        ]
-    }
-
-    /// What never came, so that nothing is checked for it.
-    pub fn never_came(&self) -> Vec<String> {
-        let never = self.counts().into_iter().filter(|&(_, count)| count == 0);
-        never.map(|(name, _)| name.to_string()).collect()
-    }
 }
 
 /// How many beacon steps of other lanes a list has.
@@ -84,11 +62,19 @@ fn of_others(steps: &[Step], lane: u32) -> usize {
     others.count()
 }
 
-impl fmt::Display for Tally {
-    fn fmt(&self, output: &mut fmt::Formatter) -> fmt::Result {
-        for (name, count) in self.counts() {
-            writeln!(output, "{name:<30}{count:>12}")?;
-        }
-        Ok(())
+impl Counts for Tally {
+    fn counts(&self) -> Vec<(&'static str, u64)> {
+        vec![
+            ("lists of steps", self.lists),
+            ("steps", self.steps),
+            ("beacons of a post sent", self.sent),
+            ("refused by 27", self.spent),
+            ("refused by 21", self.not_in_yard),
+            ("sent after another's 27", self.sent_after_others),
+            ("others' beacons refused by 27", self.spent_by_others),
+            ("over 1,024 beacons of others", self.noisy_lists),
+            ("fewer beacons of others", self.shorter),
+            ("more beacons of others", self.longer),
+        ]
     }
 }

@@ -1,8 +1,8 @@
 //! How much of demand 3 was looked at.
 
 use crate::answer::{Answer, Answered, ANSWERS};
+use crate::list_faults::Counts;
 use crate::scripts::step::Step;
-use std::fmt;
 
 #[derive(Debug, Default)]
 pub struct Tally {
@@ -46,10 +46,11 @@ impl Tally {
     fn of(&self, answer: Answer) -> u64 {
         self.answers[answer as usize]
     }
+}
 
-    /// The counts with their names; each of them must be above 0.
-    fn counts(&self) -> [(&'static str, u64); 19] {
-        [
+impl Counts for Tally {
+    fn counts(&self) -> Vec<(&'static str, u64)> {
+        vec![
             ("lists of steps", self.lists),
             ("steps", self.answers.iter().sum()),
             ("orders sent", self.of(Answer::OrderSent)),
@@ -70,20 +71,5 @@ impl Tally {
             ("logs with some of the orders", self.shorter_logs),
             ("pairs of different logs", self.pairs),
         ]
-    }
-
-    /// What never came, so that nothing is checked for it.
-    pub fn never_came(&self) -> Vec<String> {
-        let never = self.counts().into_iter().filter(|&(_, count)| count == 0);
-        never.map(|(name, _)| name.to_string()).collect()
-    }
-}
-
-impl fmt::Display for Tally {
-    fn fmt(&self, output: &mut fmt::Formatter) -> fmt::Result {
-        for (name, count) in self.counts() {
-            writeln!(output, "{name:<30}{count:>12}")?;
-        }
-        Ok(())
     }
 }

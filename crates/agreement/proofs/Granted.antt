@@ -108,14 +108,14 @@ module _ (q : ℕ) (w : World) (eight : length (w .yard .beacons) ≡ 8) where
   abbrev next : ℕ → ℕ
   next c = cond (eqb (stopsAt w q c) 0) (c + 1) c
 
-  unfoldable after : ℕ → ℕ → ℕ
-  after zero c = c
-  after (suc n) c = after n (next c)
+  unfoldable countAfter : ℕ → ℕ → ℕ
+  countAfter zero c = c
+  countAfter (suc n) c = countAfter n (next c)
 
   -- the answers to n more
-  unfoldable answers : ℕ → ℕ → List Answer
-  answers zero c = []
-  answers (suc n) c = beaconed (answersTo (stopsAt w q c)) ∷ answers n (next c)
+  unfoldable answersAfter : ℕ → ℕ → List Answer
+  answersAfter zero c = []
+  answersAfter (suc n) c = beaconed (answersTo (stopsAt w q c)) ∷ answersAfter n (next c)
 
   module _ (v : World) (k : Kept q w v) where
     abbrev c : ℕ
@@ -132,46 +132,46 @@ module _ (q : ℕ) (w : World) (eight : length (w .yard .beacons) ≡ 8) where
     same-count : beaconsAt (single v (beacon q) .yard) q ≡ next c
     same-count = own-count v q (k .counts ∙ eight) ∙ rw same-stop
 
-  -- what a list of steps does: lane q's count after it, and the answers
-  record Does (v : World) (l : List Single) : Type 0 where
+  -- what a list of steps grants lane q: its count after it, and the answers
+  record Granting (v : World) (l : List Single) : Type 0 where
     pub keeps : Kept q w (singles v l)
-    pub count : beaconsAt (singles v l .yard) q ≡ after (beaconSteps q l) (beaconsAt (v .yard) q)
-    pub told : beaconAnswers q v l ≡ answers (beaconSteps q l) (beaconsAt (v .yard) q)
+    pub count : beaconsAt (singles v l .yard) q ≡ countAfter (beaconSteps q l) (beaconsAt (v .yard) q)
+    pub told : beaconAnswers q v l ≡ answersAfter (beaconSteps q l) (beaconsAt (v .yard) q)
 
   -- a step that leaves lane q's count, and then the list
-  then-does : (v u : World) (l : List Single) → beaconsAt (u .yard) q ≡ beaconsAt (v .yard) q → Does u l
-      → (beaconsAt (singles u l .yard) q ≡ after (beaconSteps q l) (beaconsAt (v .yard) q)) × (beaconAnswers q u l ≡ answers (beaconSteps q l) (beaconsAt (v .yard) q))
-  then-does v u l e d = (d .count ∙ ap (after (beaconSteps q l)) e, d .told ∙ ap (answers (beaconSteps q l)) e)
+  then-grants : (v u : World) (l : List Single) → beaconsAt (u .yard) q ≡ beaconsAt (v .yard) q → Granting u l
+      → (beaconsAt (singles u l .yard) q ≡ countAfter (beaconSteps q l) (beaconsAt (v .yard) q)) × (beaconAnswers q u l ≡ answersAfter (beaconSteps q l) (beaconsAt (v .yard) q))
+  then-grants v u l e d = (d .count ∙ ap (countAfter (beaconSteps q l)) e, d .told ∙ ap (answersAfter (beaconSteps q l)) e)
 
   -- a beacon, and then the list
-  beacon-does : (v : World) → Kept q w v → (lane : ℕ) (l : List Single) → (lane ≡ q) ⊎ (lane ≢ q) → Does (single v (beacon lane)) l → Does v (beacon lane ∷ l)
-  unfolding singles step beaconSteps beaconAnswers after answers
-  beacon-does v k lane l (inr n) d =
+  beacon-grants : (v : World) → Kept q w v → (lane : ℕ) (l : List Single) → (lane ≡ q) ⊎ (lane ≢ q) → Granting (single v (beacon lane)) l → Granting v (beacon lane ∷ l)
+  unfolding singles step beaconSteps beaconAnswers countAfter answersAfter
+  beacon-grants v k lane l (inr n) d =
       let same : 0 + beaconSteps q l ≡ beaconSteps q l = omega arith in
-      let e = then-does v (single v (beacon lane)) l (other-count v lane q n) d in
+      let e = then-grants v (single v (beacon lane)) l (other-count v lane q n) d in
       record { keeps = d .keeps; count = rw (ne-eqb lane q n, same) (e .0); told = rw (ne-eqb lane q n, same) (e .1) }
-  beacon-does v k lane l (inl s) d =
+  beacon-grants v k lane l (inl s) d =
       let more : 1 + beaconSteps q l ≡ suc (beaconSteps q l) = omega arith in
       let f : beaconsAt (single v (beacon lane) .yard) q ≡ next (beaconsAt (v .yard) q) = rw s (same-count v k) in
       record {
         keeps = d .keeps;
-        count = rw (eq-eqb lane q s, more) (d .count ∙ ap (after (beaconSteps q l)) f);
-        told = rw (eq-eqb lane q s, more) (ap₂ _∷_ (rw s (same-answer v k)) (d .told ∙ ap (answers (beaconSteps q l)) f));
+        count = rw (eq-eqb lane q s, more) (d .count ∙ ap (countAfter (beaconSteps q l)) f);
+        told = rw (eq-eqb lane q s, more) (ap₂ _∷_ (rw s (same-answer v k)) (d .told ∙ ap (answersAfter (beaconSteps q l)) f));
       }
 
-  list-does : (v : World) → Kept q w v → (l : List Single) → Does v l
-  unfolding singles step beaconSteps beaconAnswers after answers
-  list-does v k [] = record { keeps = k; count = refl; told = refl }
-  list-does v k (order lane word ∷ l) =
-      let d = list-does (single v (order lane word)) (kept-on q w v (single v (order lane word)) k (order-kept q v lane word)) l in
-      let e = then-does v (single v (order lane word)) l (ap (λ (x : List ℕ). getD x q 0) (order-counts v lane word)) d in
+  list-grants : (v : World) → Kept q w v → (l : List Single) → Granting v l
+  unfolding singles step beaconSteps beaconAnswers countAfter answersAfter
+  list-grants v k [] = record { keeps = k; count = refl; told = refl }
+  list-grants v k (order lane word ∷ l) =
+      let d = list-grants (single v (order lane word)) (kept-on q w v (single v (order lane word)) k (order-kept q v lane word)) l in
+      let e = then-grants v (single v (order lane word)) l (ap (λ (x : List ℕ). getD x q 0) (order-counts v lane word)) d in
       record { keeps = d .keeps; count = e .0; told = e .1 }
-  list-does v k (hear lane m ∷ l) =
-      let d = list-does (single v (hear lane m)) (kept-on q w v (single v (hear lane m)) k (hear-kept q v lane m)) l in
-      let e = then-does v (single v (hear lane m)) l (ap (λ (x : List ℕ). getD x q 0) (hear-counts v lane m)) d in
+  list-grants v k (hear lane m ∷ l) =
+      let d = list-grants (single v (hear lane m)) (kept-on q w v (single v (hear lane m)) k (hear-kept q v lane m)) l in
+      let e = then-grants v (single v (hear lane m)) l (ap (λ (x : List ℕ). getD x q 0) (hear-counts v lane m)) d in
       record { keeps = d .keeps; count = e .0; told = e .1 }
-  list-does v k (beacon lane ∷ l) =
-      beacon-does v k lane l (same-or-not lane q) (list-does (single v (beacon lane)) (kept-on q w v (single v (beacon lane)) k (beacon-kept q v lane)) l)
+  list-grants v k (beacon lane ∷ l) =
+      beacon-grants v k lane l (same-or-not lane q) (list-grants (single v (beacon lane)) (kept-on q w v (single v (beacon lane)) k (beacon-kept q v lane)) l)
 
   -- from w itself
   kept-itself : Kept q w w
@@ -184,19 +184,19 @@ module _ (q : ℕ) (w : World) (eight : length (w .yard .beacons) ≡ 8) where
   run-singles v (x ∷ l) = run-singles (single v x) l
 
   -- so the answer after a list is told by how many beacon steps of lane q it has
-  answer-after : (l : List Single) → answer (run w (map one l)) (one (beacon q)) ≡ beaconed (answersTo (stopsAt w q (after (beaconSteps q l) (beaconsAt (w .yard) q))))
+  answer-after : (l : List Single) → answer (run w (map one l)) (one (beacon q)) ≡ beaconed (answersTo (stopsAt w q (countAfter (beaconSteps q l) (beaconsAt (w .yard) q))))
   answer-after l =
-      let d = list-does w kept-itself l in
+      let d = list-grants w kept-itself l in
       rw (run-singles w l) (same-answer (singles w l) (d .keeps) ∙ ap (λ (n : ℕ). beaconed (answersTo (stopsAt w q n))) (d .count))
 
   same-further : (l m : List Single) → beaconSteps q l ≡ beaconSteps q m
       → answer (run w (map one l)) (one (beacon q)) ≡ answer (run w (map one m)) (one (beacon q))
   same-further l m e =
-      answer-after l ∙ ap (λ (n : ℕ). beaconed (answersTo (stopsAt w q (after n (beaconsAt (w .yard) q))))) e ∙ sym (answer-after m)
+      answer-after l ∙ ap (λ (n : ℕ). beaconed (answersTo (stopsAt w q (countAfter n (beaconsAt (w .yard) q))))) e ∙ sym (answer-after m)
 
   same-answers : (l m : List Single) → beaconSteps q l ≡ beaconSteps q m → beaconAnswers q w l ≡ beaconAnswers q w m
   same-answers l m e =
-      list-does w kept-itself l .told ∙ ap (λ (n : ℕ). answers n (beaconsAt (w .yard) q)) e ∙ sym (list-does w kept-itself m .told)
+      list-grants w kept-itself l .told ∙ ap (λ (n : ℕ). answersAfter n (beaconsAt (w .yard) q)) e ∙ sym (list-grants w kept-itself m .told)
 
 -- ---- beacons of other lanes left out: as many of lane q
 
@@ -229,13 +229,13 @@ module _ (present sources dests : ℕ) (air : List ℕ) where
         rw (lt-ltb q 8 small, eq-eqb (length air) 65536 whole, fresh-at present sources dests q small, here)
 
     -- so its count is that of its beacon steps, up to 128
-    counted : (n c : ℕ) → c ≤ 128 → after q w counts-eight n c ≡ min (n + c) 128
-    unfolding after
+    counted : (n c : ℕ) → c ≤ 128 → countAfter q w counts-eight n c ≡ min (n + c) 128
+    unfolding countAfter
     counted zero c l = omega arith
     counted (suc n) c l = go (below-or-not c 128) (counted n)
       where
-        go : (c < 128) ⊎ (128 ≤ c) → ((d : ℕ) → d ≤ 128 → after q w counts-eight n d ≡ min (n + d) 128)
-            → after q w counts-eight n (next q w counts-eight c) ≡ min (suc n + c) 128
+        go : (c < 128) ⊎ (128 ≤ c) → ((d : ℕ) → d ≤ 128 → countAfter q w counts-eight n d ≡ min (n + d) 128)
+            → countAfter q w counts-eight n (next q w counts-eight c) ≡ min (suc n + c) 128
         go (inl m) ih = rw (stopped-by c, lt-leb 128 c m) (ih (c + 1) (omega arith) ∙ omega arith)
         go (inr m) ih = rw (stopped-by c, le-leb 128 c m) (ih c l ∙ omega arith)
 
@@ -246,10 +246,10 @@ module _ (present sources dests : ℕ) (air : List ℕ) where
         n : ℕ
         n = beaconSteps q l
 
-        d : after q w counts-eight n (beaconsAt (w .yard) q) ≡ min n 128
-        d = ap (after q w counts-eight n) (ap (λ (f : ℕ → ℕ). f q) (fresh-beacons present sources dests)) ∙ counted n 0 (omega arith) ∙ omega arith
+        d : countAfter q w counts-eight n (beaconsAt (w .yard) q) ≡ min n 128
+        d = ap (countAfter q w counts-eight n) (ap (λ (f : ℕ → ℕ). f q) (fresh-beacons present sources dests)) ∙ counted n 0 (omega arith) ∙ omega arith
 
-        go : (n < 128) ⊎ (128 ≤ n) → answersTo (stopsAt w q (after q w counts-eight n (beaconsAt (w .yard) q))) ≡ cond (ltb n 128) beaconing.the-variants.Sent (beaconing.the-variants.Refused 27)
+        go : (n < 128) ⊎ (128 ≤ n) → answersTo (stopsAt w q (countAfter q w counts-eight n (beaconsAt (w .yard) q))) ≡ cond (ltb n 128) beaconing.the-variants.Sent (beaconing.the-variants.Refused 27)
         go (inl h) = rw (d, stopped-by (min n 128), lt-leb 128 (min n 128) (omega arith), lt-ltb n 128 h)
         go (inr h) = rw (d, stopped-by (min n 128), le-leb 128 (min n 128) (omega arith), le-ltb n 128 h)
 

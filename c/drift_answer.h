@@ -26,7 +26,7 @@ enum drift_answer_code {
     /* There was no step: the script is its yard line alone. */
     DRIFT_NO_STEP = 7,
     DRIFT_ROLL_CALL_RAN = 8,
-    /* The script is refused, by 1 to 5 or 33: nothing ran. */
+    /* The script is refused, by 1 to 5: nothing ran. */
     DRIFT_SCRIPT_REFUSED = 9,
     /* The state has not DRIFT_STATE_CELLS cells, number 12: nothing ran. */
     DRIFT_STATE_REFUSED = 10
@@ -63,11 +63,11 @@ enum drift_refusal {
     DRIFT_BAD_LANE = 4,
     /* A word over 65,535. */
     DRIFT_BAD_WORD = 5,
-    /* A record with a number outside its range (entries are 1 to 8, the spare
-     * byte is 0), a role at a lane without a post, an own serial other than the
-     * last taken from its own lane, an order missing up to the last serial
-     * taken or kept beyond it, or a log that repeats an order or has one not
-     * taken. A state with another number of cells. */
+    /* A record with a number outside its range, a role at a lane without a
+     * post, an own serial other than the last taken from its own lane, an
+     * order missing up to the last serial taken or kept beyond it, or a log
+     * that repeats an order or has one not taken. A state with another number
+     * of cells. */
     DRIFT_BAD_RECORD = 12,
     /* Air not 65,536 bytes. */
     DRIFT_BAD_AIR = 13,
@@ -100,9 +100,7 @@ enum drift_refusal {
     DRIFT_CSV_BAD_FIELDS = 31,
     /* Such a record that does not rise by stamp and then lane, a 129th order,
      * or a lane's 17th. */
-    DRIFT_CSV_BAD_SEQUENCE = 32,
-    /* The entries of a script's line 1 are outside 1 to 8. Judged after 3. */
-    DRIFT_ENTRIES_NOT_1_TO_8 = 33
+    DRIFT_CSV_BAD_SEQUENCE = 32
 };
 
 #endif

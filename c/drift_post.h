@@ -15,15 +15,12 @@ extern "C" {
 #endif
 
 /* Number of bytes of a post's record. */
-#define DRIFT_POST_LENGTH 930
+#define DRIFT_POST_LENGTH 928
 
 /* Number of orders that all lanes together can send, each with serials 1 to 16;
  * number of stamps in the table, for each lane the serials 0 to 16. */
 #define DRIFT_POST_ORDERS 128
 #define DRIFT_POST_TABLE_LENGTH 136
-
-/* The most entries that a broadcast can carry: one for each lane. */
-#define DRIFT_MOST_ENTRIES 8
 
 /* The set that has one lane, 0 to 7. Sets are joined by |. */
 #define DRIFT_POST_SET(lane) ((uint8_t)(1u << (lane)))
@@ -40,10 +37,6 @@ extern "C" {
  * The record of a post. drift_post_fresh makes one; the caller may read, copy,
  * store and compare it byte by byte, and leaves changing it to the steps.
  * Numbers are in the machine's own byte order, unlike those of a frame.
- *
- * A record that an older version stored, with 928 bytes, is not one of these and
- * there is no call that makes one of it. Make all posts of the yard fresh; or lay
- * it out anew, each field at its place here, with entries 8 and spare 0.
  */
 struct drift_post {
     /* The post's lane, 0 to 7. */
@@ -53,12 +46,6 @@ struct drift_post {
     uint8_t posts;
     uint8_t sources;
     uint8_t dests;
-    /* The most entries that a broadcast of this post carries, 1 to 8: its own
-     * first, if it has one, then those of the lowest lanes. The other lanes of
-     * the frame are zero. It bounds what the post sends, not what it hears. */
-    uint8_t entries;
-    /* Always 0; kept for a later version. */
-    uint8_t spare;
     /* The logical clock; 0 before anything has happened, and always at a post
      * that is no source. */
     uint16_t clock;
@@ -78,7 +65,7 @@ struct drift_post {
     uint8_t log[DRIFT_POST_ORDERS];
 };
 
-/* The archive relies on this layout: 930 bytes without a gap. */
+/* The archive relies on this layout: 928 bytes without a gap. */
 #ifdef __cplusplus
 #define DRIFT_POST_DEMAND(fact) static_assert(fact, "layout of a record")
 #else
@@ -89,29 +76,25 @@ DRIFT_POST_DEMAND(offsetof(struct drift_post, lane) == 0);
 DRIFT_POST_DEMAND(offsetof(struct drift_post, posts) == 1);
 DRIFT_POST_DEMAND(offsetof(struct drift_post, sources) == 2);
 DRIFT_POST_DEMAND(offsetof(struct drift_post, dests) == 3);
-DRIFT_POST_DEMAND(offsetof(struct drift_post, entries) == 4);
-DRIFT_POST_DEMAND(offsetof(struct drift_post, spare) == 5);
-DRIFT_POST_DEMAND(offsetof(struct drift_post, clock) == 6);
-DRIFT_POST_DEMAND(offsetof(struct drift_post, serial) == 8);
-DRIFT_POST_DEMAND(offsetof(struct drift_post, logged) == 9);
-DRIFT_POST_DEMAND(offsetof(struct drift_post, last) == 10);
-DRIFT_POST_DEMAND(offsetof(struct drift_post, table) == 18);
-DRIFT_POST_DEMAND(offsetof(struct drift_post, stamps) == 290);
-DRIFT_POST_DEMAND(offsetof(struct drift_post, words) == 546);
-DRIFT_POST_DEMAND(offsetof(struct drift_post, log) == 802);
+DRIFT_POST_DEMAND(offsetof(struct drift_post, clock) == 4);
+DRIFT_POST_DEMAND(offsetof(struct drift_post, serial) == 6);
+DRIFT_POST_DEMAND(offsetof(struct drift_post, logged) == 7);
+DRIFT_POST_DEMAND(offsetof(struct drift_post, last) == 8);
+DRIFT_POST_DEMAND(offsetof(struct drift_post, table) == 16);
+DRIFT_POST_DEMAND(offsetof(struct drift_post, stamps) == 288);
+DRIFT_POST_DEMAND(offsetof(struct drift_post, words) == 544);
+DRIFT_POST_DEMAND(offsetof(struct drift_post, log) == 800);
 #undef DRIFT_POST_DEMAND
 
 /*
  * Makes a fresh post: clock 0, serial 0, nothing taken, nothing logged.
  *
  * lane is the post's own, 0 to 7; posts, sources and dests are the sets of the
- * yard, as DRIFT_POST_SET(0) | DRIFT_POST_SET(2); entries is how many a broadcast
- * carries at most: DRIFT_MOST_ENTRIES, or fewer for a radio with little air time.
+ * yard, as DRIFT_POST_SET(0) | DRIFT_POST_SET(2).
  *
  * Returns 0 and fills the whole record, or returns the number of the refusal
- * and leaves the record as it was. Judged in this order: 12, if lane is over 7,
- * a role stands at a lane without a post or entries is outside 1 to 8; 21, if
- * posts has not the lane.
+ * and leaves the record as it was. Judged in this order: 12, if lane is over 7
+ * or a role stands at a lane without a post; 21, if posts has not the lane.
  *
  * For all four functions: post must point to an initialised record, readable
  * and writable (drift_post_beacon only reads it), aligned as struct drift_post
@@ -126,7 +109,7 @@ DRIFT_POST_DEMAND(offsetof(struct drift_post, log) == 802);
  * handler that calls one must save those.
  */
 uint8_t drift_post_fresh(struct drift_post *post, uint8_t lane, uint8_t posts,
-                         uint8_t sources, uint8_t dests, uint8_t entries);
+                         uint8_t sources, uint8_t dests);
 
 /*
  * The post sends an order with a word, takes it, and delivers what is ready.
@@ -169,8 +152,8 @@ uint64_t drift_post_hear(struct drift_post *post,
                          uint8_t *buffer, size_t buffer_length);
 
 /*
- * The post, of any role, sends a beacon: its newest entries, as many as it may,
- * without an order. The record is never written.
+ * The post, of any role, sends a beacon: its newest entries without an order.
+ * The record is never written.
  *
  * Returns 0, and the buffer holds the DRIFT_FRAME_LENGTH bytes to broadcast; or
  * returns the number of the refusal, and the buffer keeps its bytes. Judged in

@@ -60,9 +60,7 @@ size_t drift_run_script(const uint8_t *script, size_t script_length,
  *   3 .. 10       for each lane how many beacons its post has sent, at most 128
  *   11 .. 138     for each order the number of its first frame; 0 where there
  *                 is no order
- *   139           the set of destinations
- *   140           how many entries a broadcast carries at most, 1 to 8
- *   141 .. 4500   a row of DRIFT_ROW_CELLS cells for each of the lanes 0 to 7
+ *   139 .. 4482   a row of DRIFT_ROW_CELLS cells for each of the lanes 0 to 7
  *
  *   cell          of a lane's row
  *   0             the lane
@@ -80,33 +78,27 @@ size_t drift_run_script(const uint8_t *script, size_t script_length,
  *   286 .. 413    its word; else 0
  *   414 .. 541    the log: the places of the orders delivered, in the order of
  *                 delivery, then 0
- *   542           how many entries a broadcast carries at most
- *   543           spare, 0
- *   544           the set of posts
+ *   542           the set of posts
  *
  * Cells 14 to 21 are a note of the runner's own; all others of a row are the
  * post's record, with the meaning that they have in struct drift_post. A lane
- * without a post has a fresh row with the yard's sets and entries.
+ * without a post has a fresh row with the yard's sets.
  *
- * So post 2's clock is state[DRIFT_STATE_ROW(2) + DRIFT_ROW_CLOCK]. Use the
- * names below: before a yard had entries, rows of 543 cells began at cell 139
- * and had the set of posts in their cell 542.
+ * So post 2's clock is state[DRIFT_STATE_ROW(2) + DRIFT_ROW_CLOCK].
  */
-#define DRIFT_STATE_CELLS 4501
-#define DRIFT_ROW_CELLS 545
+#define DRIFT_STATE_CELLS 4483
+#define DRIFT_ROW_CELLS 543
 
 /* Single cells of a state; the beacons of a lane's post; the first frame of the
  * order at a place; where the row of a lane begins. */
 enum drift_state_cell {
     DRIFT_STATE_POSTS = 0,
     DRIFT_STATE_SOURCES = 1,
-    DRIFT_STATE_FRAMES = 2,
-    DRIFT_STATE_DESTS = 139,
-    DRIFT_STATE_ENTRIES = 140
+    DRIFT_STATE_FRAMES = 2
 };
 #define DRIFT_STATE_BEACONS(lane) (3 + (lane))
 #define DRIFT_STATE_FIRST_FRAME(place) (11 + (place))
-#define DRIFT_STATE_ROW(lane) (141 + DRIFT_ROW_CELLS * (lane))
+#define DRIFT_STATE_ROW(lane) (139 + DRIFT_ROW_CELLS * (lane))
 
 /* Single cells of a row, and those that it has for each lane, for each place of
  * the table, for each place of an order and for each order of the log, from 0. */
@@ -117,9 +109,7 @@ enum drift_row_cell {
     DRIFT_ROW_CLOCK = 3,
     DRIFT_ROW_SERIAL = 4,
     DRIFT_ROW_LOGGED = 5,
-    DRIFT_ROW_ENTRIES = 542,
-    DRIFT_ROW_SPARE = 543,
-    DRIFT_ROW_POSTS = 544
+    DRIFT_ROW_POSTS = 542
 };
 #define DRIFT_ROW_LAST(lane) (6 + (lane))
 #define DRIFT_ROW_KNOWN(lane) (14 + (lane))
@@ -139,8 +129,8 @@ enum drift_row_cell {
  *
  * Nothing runs, and state and air keep their contents, with two codes alone:
  * DRIFT_STATE_REFUSED, number 12, if state_cells is not DRIFT_STATE_CELLS, which
- * is judged first; DRIFT_SCRIPT_REFUSED, with the number of the refusal, 1 to 5 or
- * 33, and the line, if the script is refused: what `(bad LINE NUMBER)` prints.
+ * is judged first; DRIFT_SCRIPT_REFUSED, with the number of the refusal, 1 to 5,
+ * and the line, if the script is refused: what `(bad LINE NUMBER)` prints.
  *
  * If air_length is not DRIFT_AIR_LENGTH each step is refused by 13, the air keeps
  * its bytes, and the state is that of the fresh yard.

@@ -1,10 +1,8 @@
 /*
  * Firmware of one post: it owns the post's record and lends it to every step.
  * Post 0 of document 01's yard sends an order, hears one of post 1, twice and
- * damaged, and sends a beacon. Then it starts anew as a post whose broadcasts
- * carry one entry, and sends and hears the same. Prints what c/one_post.out
- * has, and exits with 1 if an answer, the record or the buffer is not as it
- * should be.
+ * damaged, and sends a beacon. Prints what c/one_post.out has, and exits with 1
+ * if an answer, the record or the buffer is not as it should be.
  * To build and run it in the repository root:
  *
  *   rt staticlib lent_post
@@ -38,10 +36,6 @@ static const uint8_t order_of_post_1[DRIFT_FRAME_LENGTH] = {
 /* What the post must then broadcast: P2 of document 01. */
 static const uint8_t passed_on[DRIFT_FRAME_LENGTH] = {
     1, 0, 1, 1, 0, 3, 0, 90, 1, 0, 4, 1, 0, 3};
-
-/* The same with one entry: its own, lane 0. Lane 1 is passed over. */
-static const uint8_t passed_on_with_one[DRIFT_FRAME_LENGTH] = {
-    1, 0, 1, 1, 0, 3, 0, 90, 1, 0, 4};
 
 /* What the post must broadcast for its own order of word 417, and as beacon. */
 static const uint8_t own_order[DRIFT_FRAME_LENGTH] = {
@@ -92,19 +86,17 @@ static bool record_stayed(void)
     return expect(same, "the record");
 }
 
-/* A fresh post whose broadcasts carry so many entries, once. From then on the
- * steps alone change the record. */
-static uint8_t start(uint8_t entries)
+/* A fresh post, once. From then on the steps alone change the record. */
+static bool start(void)
 {
-    uint8_t refusal =
-        drift_post_fresh(&post, 0, POSTS, SOURCES, DESTS, entries);
+    uint8_t refusal = drift_post_fresh(&post, 0, POSTS, SOURCES, DESTS);
 
     if (refusal != 0) {
-        printf("fresh, entries %u: refused %u\n", entries, refusal);
-    } else {
-        printf("fresh, entries %u: made\n", entries);
+        printf("fresh: refused %u\n", refusal);
+        return expect(false, "the fresh post");
     }
-    return refusal;
+    printf("fresh: made\n");
+    return true;
 }
 
 /* An order is always broadcast, unless it is refused. */
@@ -155,13 +147,13 @@ static uint64_t hear(const uint8_t *frame, size_t length)
 
 /* The order is taken and passed on. With what its frame tells of post 1 both
  * orders are ready: they join the log. */
-static bool hear_order(const uint8_t *expected)
+static bool hear_order(void)
 {
     uint64_t answer = hear(order_of_post_1, sizeof order_of_post_1);
 
     return expect(DRIFT_ANSWER_CODE(answer) == DRIFT_TAKEN, "taken") &&
            expect(DRIFT_ANSWER_DELIVERED(answer) == 2, "two delivered") &&
-           broadcast(expected);
+           broadcast(passed_on);
 }
 
 /* The same frame once more: there is nothing to pass on. */
@@ -235,29 +227,11 @@ static bool print_post(void)
            expect(fflush(stdout) == 0, "standard output");
 }
 
-/* Entries are 1 to 8. A refused fresh post leaves the record. */
-static bool refuse_entries(void)
-{
-    remember();
-    return expect(start(0) == DRIFT_BAD_RECORD, "0 entries") &&
-           expect(start(9) == DRIFT_BAD_RECORD, "9 entries") &&
-           record_stayed();
-}
-
-/* A radio with little air time. The post sends less and hears the same: its log
- * is the same too, and who hears its broadcasts learns of its own lane alone. */
-static bool send_one_entry(void)
-{
-    return expect(start(1) == 0, "the post with one entry") && send_order() &&
-           hear_order(passed_on_with_one) && print_post();
-}
-
 int main(void)
 {
-    bool good = expect(start(DRIFT_MOST_ENTRIES) == 0, "the fresh post") &&
-                send_order() && hear_order(passed_on) && hear_again() &&
+    bool good = start() && send_order() && hear_order() && hear_again() &&
                 hear_damaged() && lend_damaged_record() && send_beacon() &&
-                print_post() && refuse_entries() && send_one_entry();
+                print_post();
 
     return good ? 0 : 1;
 }

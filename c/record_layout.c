@@ -31,8 +31,6 @@ static const struct field fields[] = {
     FIELD(posts),
     FIELD(sources),
     FIELD(dests),
-    FIELD(entries),
-    FIELD(spare),
     FIELD(clock),
     FIELD(serial),
     FIELD(logged),

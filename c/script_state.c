@@ -1,10 +1,9 @@
 /*
  * A host in C that looks behind a printout: runs the script of a file, prints
  * each post from the state as document 01 prints it, how many beacons each
- * lane's post has sent, how many entries a broadcast carries at most, and what
- * the last line answered. Tries the library's answers to states of other lengths
- * too, and exits with 1 if one differs. To build and run it in the repository
- * root:
+ * lane's post has sent, and what the last line answered. Tries the library's
+ * answers to states of other lengths too, and exits with 1 if one differs. To
+ * build and run it in the repository root:
  *
  *   rt staticlib script
  *   gcc -std=c11 -Wall -Wextra -Wpedantic -Wconversion -Werror \
@@ -125,7 +124,6 @@ static int print_state(size_t length)
         }
     }
     print_beacons();
-    printf("entries of a broadcast: at most %u\n", state[DRIFT_STATE_ENTRIES]);
     if (!is_rest(state, DRIFT_STATE_CELLS * sizeof state[0], sizeof state)) {
         return differs("a cell behind the state was written");
     }

@@ -31,8 +31,6 @@ static const struct part state_parts[] = {
     {"frames", DRIFT_STATE_FRAMES, 1},
     CELLS("beacons", DRIFT_STATE_BEACONS, DRIFT_LANES),
     CELLS("first", DRIFT_STATE_FIRST_FRAME, DRIFT_POST_ORDERS),
-    {"dests", DRIFT_STATE_DESTS, 1},
-    {"entries", DRIFT_STATE_ENTRIES, 1},
     CELLS("rows", DRIFT_STATE_ROW, DRIFT_LANES),
 };
 
@@ -50,8 +48,6 @@ static const struct part row_parts[] = {
     CELLS("row.stamps", DRIFT_ROW_STAMP, DRIFT_POST_ORDERS),
     CELLS("row.words", DRIFT_ROW_WORD, DRIFT_POST_ORDERS),
     CELLS("row.log", DRIFT_ROW_LOG, DRIFT_POST_ORDERS),
-    {"row.entries", DRIFT_ROW_ENTRIES, 1},
-    {"row.spare", DRIFT_ROW_SPARE, 1},
     {"row.posts", DRIFT_ROW_POSTS, 1},
 };
 

@@ -5,7 +5,6 @@ use Prim.Native.Nat.{ℕ, ◌+◌, ◌<◌}
 use native.Mathlib.Numerals.{add-one}
 use lib.ListN.{length-set}
 use Rattle.air.proofs.Stretches.{length_stays}
-use Rattle.setup.specs.declared.Setup.{Setup}
 use Rattle.post.specs.Newest.{beacon_frame}
 use Rattle.steps.specs.Refusals.{not_in_yard}
 use Rattle.state.specs.Yards.{post_at, beacons_at}
@@ -21,12 +20,12 @@ use Rattle.agreement.proofs.AirViews.{air_spoken}
 use Rattle.agreement.proofs.Sound.{on_air_more, Sound}
 use Rattle.agreement.proofs.BeaconWays.{BeaconDone, beacon_done_lem}
 
-module _ (setup : Setup) where
+module _ (present sources dests : ℕ) where
   abbrev R : model.Roles
-  R = roles_of setup
+  R = roles_of present sources dests
 
-  module _ (w : World) (s : Sound setup w) (lane : ℕ) (here : lane < 8)
-      (inside : not_in_yard (post_at w.yard lane).setup.posts (post_at w.yard lane).lane ≡ false)
+  module _ (w : World) (s : Sound present sources dests w) (lane : ℕ) (here : lane < 8)
+      (inside : not_in_yard (post_at w.yard lane).posts (post_at w.yard lane).lane ≡ false)
       (left : beacons_at w.yard lane < 128) (room : w.yard.frames < 2048) where
     can_beacon : Sendable (beacon_frame (post_at w.yard lane))
     can_beacon =
@@ -42,17 +41,17 @@ module _ (setup : Setup) where
       air = (air_spoken w.air w.yard.frames (beacon_frame (post_at w.yard lane)) s.whole room can_beacon
           ∙ ap (upd (yard_view w).air w.yard.frames)
           (view_beacon_frame (post_at w.yard lane) (s.post lane here).shaped
-          ∙ ap (λ (x : Setup). model.entries_frame (roles_of x) true (post_at w.yard lane).lane model.no_order_lem (post_view (post_at w.yard lane))) (s.post lane here).its_setup
-          ∙ ap (λ (i : ℕ). model.entries_frame R true i model.no_order_lem (post_view (post_at w.yard lane))) (s.post lane here).its_lane)) t;
+          ∙ ap (λ (i : ℕ). model.entries_frame true i model.no_order_lem (post_view (post_at w.yard lane))) (s.post lane here).its_lane)) t;
       frames = add-one w.yard.frames t;
       beacons = (lanes_set w.yard.beacons lane (beacons_at w.yard lane + 1) s.counts here
           ∙ ap (upd (beacons_at w.yard) lane) (add-one (beacons_at w.yard lane))) t;
       first = places_view w.yard.first;
     }
 
-    pub beacon_sound : Sound setup (single w (beacon lane))
+    pub beacon_sound : Sound present sources dests (single w (beacon lane))
     beacon_sound = rw beacon_is_done.leaves (record {
-      its_setup = s.its_setup;
+      its_present = s.its_present;
+      its_sources = s.its_sources;
       eight = s.eight;
       counts = length-set w.yard.beacons lane (beacons_at w.yard lane + 1) ∙ s.counts;
       places = s.places;

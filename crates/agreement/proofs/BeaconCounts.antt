@@ -35,8 +35,8 @@ sends : (air : List ℕ) (p : Post) (c : ℕ) → stops_beacon air p c ≡ 0 →
 unfolding beacon_step
 sends air p c z =
     let r27 : ℕ = cond (spent c) 27 0 in
-    let a = passed (bad_air air) 13 (cond (not_in_yard p.setup.posts p.lane) 21 r27) (omega arith) z in
-    rw (passed (not_in_yard p.setup.posts p.lane) 21 r27 (omega arith) a.1).0
+    let a = passed (bad_air air) 13 (cond (not_in_yard p.posts p.lane) 21 r27) (omega arith) z in
+    rw (passed (not_in_yard p.posts p.lane) 21 r27 (omega arith) a.1).0
 
 module _ (w : World) (lane : ℕ) where
   abbrev c : ℕ

@@ -38,7 +38,7 @@ beacon_13 w lane l n = record {
 
 -- 21
 pub beacon_21 : (w : World) (lane : ℕ) → lane < 8 → length w.air ≡ 65536
-    → not_in_yard (post_at w.yard lane).setup.posts (post_at w.yard lane).lane ≡ true
+    → not_in_yard (post_at w.yard lane).posts (post_at w.yard lane).lane ≡ true
     → BeaconStays w lane 21
 unfolding single yard_beacons yard_beacons_air post_beacons post_beacons_air
 beacon_21 w lane l e i = record {
@@ -48,7 +48,7 @@ beacon_21 w lane l e i = record {
 
 -- 27
 pub beacon_27 : (w : World) (lane : ℕ) → lane < 8 → length w.air ≡ 65536
-    → not_in_yard (post_at w.yard lane).setup.posts (post_at w.yard lane).lane ≡ false → 128 ≤ beacons_at w.yard lane
+    → not_in_yard (post_at w.yard lane).posts (post_at w.yard lane).lane ≡ false → 128 ≤ beacons_at w.yard lane
     → BeaconStays w lane 27
 unfolding single yard_beacons yard_beacons_air post_beacons post_beacons_air
 beacon_27 w lane l e i h = record {
@@ -65,7 +65,7 @@ pub record BeaconDone (w : World) (lane : ℕ) : Type 0 where
   }
 
 pub beacon_done_lem : (w : World) (lane : ℕ) → lane < 8 → length w.air ≡ 65536
-    → not_in_yard (post_at w.yard lane).setup.posts (post_at w.yard lane).lane ≡ false → beacons_at w.yard lane < 128
+    → not_in_yard (post_at w.yard lane).posts (post_at w.yard lane).lane ≡ false → beacons_at w.yard lane < 128
     → w.yard.frames < 2048 → Sendable (beacon_frame (post_at w.yard lane))
     → BeaconDone w lane
 unfolding single yard_beacons yard_beacons_air post_beacons post_beacons_air beacon_step

@@ -1,25 +1,24 @@
--- The frames that a post broadcasts, read as the model's frames: each lane's newest entry is the model's, and so is the choice of those
--- that are sent. Assumes nothing.
-use mathlib.Core.Path.{◌≡◌, refl, sym, ◌∙◌}
+-- The frames that a post broadcasts, read as the model's frames: each lane's newest entry is the model's. Assumes nothing.
+use mathlib.Core.Path.{◌≡◌, refl, sym, ◌∙◌, fun_ext}
 use mathlib.Core.Logic.{◌⊎◌, inl, inr}
 use mathlib.Core.Bool.{Bool, true, false, cond, ◌&&◌}
 use mathlib.Core.List.{List}
 use Prim.Native.Nat.{ℕ, zero, suc, ◌<◌, ◌≤◌}
 use native.Mathlib.Omega.{arith}
 use lib.Dec.{ltb, leb, eqb}
-use lib.ListN.{get_or, get_or-eq_default}
+use lib.ListN.{length, get_or, get_or-eq_default}
 use borrow.Author.Tests.{ltb-true, ltb-false, leb-true, le-leb, eq-eqb, ne_eqb}
 use Rattle.frame.specs.Layout.{no_entry}
 use Rattle.frame.specs.declared.Entry.{Entry}
 use Rattle.cells.specs.Tables.{stamp_under}
 use Rattle.post.specs.declared.Post.{Post}
-use Rattle.post.specs.Newest.{newer, newest_below, newest, others_below, entries_before, entry_sent, entries_sent, order_frame, beacon_frame}
+use Rattle.post.specs.Newest.{newer, newest_below, newest_entries, order_frame, beacon_frame}
 use Rattle.laws.proofs.TestLaws.{below_or_not}
-use Rattle.laws.proofs.NewestLaws.{sent_entry}
+use Rattle.laws.proofs.NewestLaws.{newest_entry}
 use Rattle.laws.proofs.Valid.{Shaped}
 use Rattle.model.proofs.Model.{best, newest_stamp, newest_serial, entries_frame, no_order_lem}
-use Rattle.agreement.proofs.Views.{others_in, sends_up_to, roles_of, post_view, frame_view}
-use Rattle.agreement.proofs.ArrayViews.{table_past}
+use Rattle.agreement.proofs.Views.{post_view, frame_view}
+use Rattle.agreement.proofs.ArrayViews.{serials_of, stamps_of, table_past}
 
 -- ---- the newest entry of a lane
 
@@ -77,71 +76,47 @@ newest_best t i (suc k) = newer_next t i k (best (stamp_under t i) k) (newest_be
 
 -- ---- the entries of a broadcast
 
--- whether a lane has an entry, how many of the others have, and which are sent: as the model has it
-newest_stamp_lem : (t : List ℕ) (i : ℕ) → (newest t i).stamp.0 ≡ newest_stamp (stamp_under t i)
-newest_stamp_lem t i = (newest_best t i 16).0
-
-others_same : (t : List ℕ) (own n : ℕ) → others_below t own n ≡ others_in (stamp_under t) own n
-unfolding others_below others_in
-others_same t own zero = refl
-others_same t own (suc i) = rw (others_same t own i, newest_stamp_lem t i)
-
-sends_same : (e : ℕ) (t : List ℕ) (own i : ℕ) → ltb (entries_before t own i) e ≡ sends_up_to e own (stamp_under t) i
-unfolding entries_before sends_up_to
-sends_same e t own i = rw (others_same t own i, newest_stamp_lem t own)
-
 -- of a lane past the last one there is none
-sent_past : (p : Post) (i : ℕ) → 8 ≤ i → get_or (entries_sent p) i no_entry ≡ no_entry
-unfolding entries_sent
-sent_past p i h = get_or-eq_default (entries_sent p) no_entry {n = i} h
+entry_past : (t : List ℕ) (i : ℕ) → 8 ≤ i → get_or (newest_entries t) i no_entry ≡ no_entry
+unfolding newest_entries
+entry_past t i h = get_or-eq_default (newest_entries t) no_entry {n = i} h
 
--- an entry as the model has it, or none
-abbrev Sends : Bool → (ℕ → ℕ) → Entry → Type 0
-Sends b T e = (e.stamp.0 ≡ cond b (newest_stamp T) 0) × (e.serial.0 ≡ cond b (newest_serial T) 0)
-
-none_sent_lem : (b : Bool) (T : ℕ → ℕ) → newest_stamp T ≡ 0 → Sends b T no_entry
-none_sent_lem true T e = (sym e, sym (rw (eq-eqb (newest_stamp T) 0 e) refl))
-none_sent_lem false T e = (refl, refl)
-
--- each lane's entry is the model's
-sent_best : (p : Post) (i : ℕ) → Shaped p → Sends (sends_up_to p.setup.entries p.lane (stamp_under p.table) i) (stamp_under p.table i) (get_or (entries_sent p) i no_entry)
-unfolding entry_sent
-sent_best p i s = go (below_or_not i 8)
+-- each lane's entry is the model's newest entry
+entry_best : (t : List ℕ) (i : ℕ) → length t ≡ 136 → Says (stamp_under t i) (best (stamp_under t i) 16) (get_or (newest_entries t) i no_entry)
+entry_best t i e = go (below_or_not i 8)
   where
-    T : ℕ → ℕ
-    T = stamp_under p.table i
+    go : (i < 8) ⊎ (8 ≤ i) → Says (stamp_under t i) (best (stamp_under t i) 16) (get_or (newest_entries t) i no_entry)
+    go (inl l) = rw (newest_entry t i l) (newest_best t i 16)
+    go (inr l) = rw (entry_past t i l, table_past t i (best (stamp_under t i) 16) e l) (refl, refl)
 
-    b : Bool
-    b = sends_up_to p.setup.entries p.lane (stamp_under p.table) i
+-- the serials of all entries
+pub entry_serials : (t : List ℕ) → length t ≡ 136 → serials_of (newest_entries t) ≡ (λ (i : ℕ). newest_serial (stamp_under t i))
+entry_serials t e = fun_ext (λ i. (entry_best t i e).1)
 
-    chosen : (c : Bool) → Sends c T (cond c (newest p.table i) no_entry)
-    chosen true = newest_best p.table i 16
-    chosen false = (refl, refl)
-
-    go : (i < 8) ⊎ (8 ≤ i) → Sends b T (get_or (entries_sent p) i no_entry)
-    go (inl l) = rw (sent_entry p i l, sends_same p.setup.entries p.table p.lane i) (chosen b)
-    go (inr l) = rw (sent_past p i l) (none_sent_lem b T (table_past p.table i (best T 16) s.table l))
+-- and their stamps
+pub entry_stamps : (t : List ℕ) → length t ≡ 136 → stamps_of (newest_entries t) ≡ (λ (i : ℕ). newest_stamp (stamp_under t i))
+entry_stamps t e = fun_ext (λ i. (entry_best t i e).0)
 
 -- ---- the frames
 
 -- an order that a post broadcasts
 pub view_order_frame : (p : Post) (lane serial stamp word : ℕ) → Shaped p
     → frame_view (order_frame p lane serial stamp word)
-    ≡ entries_frame (roles_of p.setup) false p.lane (record { lane = lane; serial = serial; stamp = stamp; word = word }) (post_view p)
+    ≡ entries_frame false p.lane (record { lane = lane; serial = serial; stamp = stamp; word = word }) (post_view p)
 view_order_frame p lane serial stamp word s = λ t. record {
   beacon = false;
   sender = p.lane;
   carried = record { lane = lane; serial = serial; stamp = stamp; word = word };
-  entry_serial = λ i. (sent_best p i s).1 t;
-  entry_stamp = λ i. (sent_best p i s).0 t;
+  entry_serial = entry_serials p.table s.table t;
+  entry_stamp = entry_stamps p.table s.table t;
 }
 
 -- a beacon
-pub view_beacon_frame : (p : Post) → Shaped p → frame_view (beacon_frame p) ≡ entries_frame (roles_of p.setup) true p.lane no_order_lem (post_view p)
+pub view_beacon_frame : (p : Post) → Shaped p → frame_view (beacon_frame p) ≡ entries_frame true p.lane no_order_lem (post_view p)
 view_beacon_frame p s = λ t. record {
   beacon = true;
   sender = p.lane;
   carried = no_order_lem;
-  entry_serial = λ i. (sent_best p i s).1 t;
-  entry_stamp = λ i. (sent_best p i s).0 t;
+  entry_serial = entry_serials p.table s.table t;
+  entry_stamp = entry_stamps p.table s.table t;
 }

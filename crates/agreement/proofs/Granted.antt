@@ -12,7 +12,6 @@ use lib.Seq.{get_or-set_same, get_or-set_other}
 use borrow.Author.Tests.{lt-ltb, le-ltb, le-leb, lt-leb, eq-eqb, ne_eqb}
 use Rattle.air.proofs.Stretches.{length_stays}
 use Rattle.cells.specs.Sets.{has_lane}
-use Rattle.setup.specs.declared.Setup.{Setup}
 use Rattle.post.specs.declared.Post.{Post}
 use Rattle.steps.specs.Steps.{order_step, hear_step, beacon_step}
 use Rattle.steps.specs.declared.BeaconAnswer as beaconing
@@ -124,7 +123,7 @@ module _ (q : ℕ) (w : World) (eight : length w.yard.beacons ≡ 8) where
 
     -- what stops it there is what stops it in w at that count
     same_stop : stops_at v q c ≡ stops_at w q c
-    same_stop = rw (k.bytes, k.roles.lane, k.roles.setup)
+    same_stop = rw (k.bytes, k.roles.lane, k.roles.posts)
 
     same_answer : answer v (one (beacon q)) ≡ beaconed (answers_to (stops_at w q c))
     unfolding answer
@@ -215,19 +214,19 @@ left_out q (beacon lane ∷ l) = one_left q lane (eqb lane q) (without_others q 
 
 -- ---- a fresh yard
 
-module _ (setup : Setup) (air : List ℕ) where
+module _ (present sources dests : ℕ) (air : List ℕ) where
   abbrev w : World
-  w = fresh_world setup air
+  w = fresh_world present sources dests air
 
   counts_eight : length w.yard.beacons ≡ 8
   counts_eight = unfold fresh_yard in length-replicate {A = ℕ} 8 0
 
   -- a post of the yard, with an air of the right length, is stopped only where it has sent 128
-  module _ (q : ℕ) (here : has_lane setup.posts q ≡ true) (whole : length air ≡ 65536) where
+  module _ (q : ℕ) (here : has_lane present q ≡ true) (whole : length air ≡ 65536) where
     stopped_by : (c : ℕ) → stops_at w q c ≡ cond (leb 128 c) 27 0
     stopped_by c =
-        let small = below_eight setup.posts q here in
-        rw (lt-ltb q 8 small, eq-eqb (length air) 65536 whole, fresh_at setup q small, here)
+        let small = below_eight present q here in
+        rw (lt-ltb q 8 small, eq-eqb (length air) 65536 whole, fresh_at present sources dests q small, here)
 
     -- so its count is that of its beacon steps, up to 128
     counted : (n c : ℕ) → c ≤ 128 → count_after q w counts_eight n c ≡ min (n + c) 128
@@ -248,21 +247,21 @@ module _ (setup : Setup) (air : List ℕ) where
         n = beacon_steps q l
 
         d : count_after q w counts_eight n (beacons_at w.yard q) ≡ min n 128
-        d = ap (count_after q w counts_eight n) (ap (λ (f : ℕ → ℕ). f q) (fresh_beacons setup)) ∙ counted n 0 (omega arith) ∙ omega arith
+        d = ap (count_after q w counts_eight n) (ap (λ (f : ℕ → ℕ). f q) (fresh_beacons present sources dests)) ∙ counted n 0 (omega arith) ∙ omega arith
 
         go : (n < 128) ⊎ (128 ≤ n) → answers_to (stops_at w q (count_after q w counts_eight n (beacons_at w.yard q))) ≡ cond (ltb n 128) beaconing.TheVariants.Sent (beaconing.TheVariants.Refused 27)
         go (inl h) = rw (d, stopped_by (min n 128), lt-leb 128 (min n 128) (omega arith), lt-ltb n 128 h)
         go (inr h) = rw (d, stopped_by (min n 128), le-leb 128 (min n 128) (omega arith), le-ltb n 128 h)
 
 pub granted : BeaconsGranted
-granted setup air = record {
+granted present sources dests air = record {
   further = λ q. same_further q w' eight;
   others = λ q l m e. same_answers q w' eight l m (sym (left_out q l) ∙ ap (beacon_steps q) e ∙ left_out q m);
-  own = λ q l here whole. its_own setup air q here whole l;
+  own = λ q l here whole. its_own present sources dests air q here whole l;
 }
   where
     w' : World
-    w' = fresh_world setup air
+    w' = fresh_world present sources dests air
 
     eight : length w'.yard.beacons ≡ 8
-    eight = counts_eight setup air
+    eight = counts_eight present sources dests air

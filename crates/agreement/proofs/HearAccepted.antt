@@ -7,7 +7,6 @@ use lib.ListN.{length-set}
 use Rattle.frame.specs.declared.Frame as frames
 use Rattle.air.proofs.Stretches.{length_stays}
 use Rattle.cells.specs.Sets.{has_lane}
-use Rattle.setup.specs.declared.Setup.{Setup}
 use Rattle.post.specs.declared.Post as posts
 use Rattle.post.specs.Record.{last_of}
 use Rattle.post.specs.Taking.{taken}
@@ -34,7 +33,7 @@ use Rattle.agreement.proofs.YardPosts.{posts_view, delivers, rose_before}
 pub hearing_takes : (R : model.Roles) (Y : model.Yard) (p : ℕ) (F : model.Frame) → model.takes (model.raised (Y.posts p) F) F ≡ true
     → model.hear_done R Y p F
     ≡ model.spoken Y p (model.deliver R p (model.taken R p F.carried (model.raised (Y.posts p) F)))
-    (model.entries_frame R false p F.carried (model.taken R p F.carried (model.raised (Y.posts p) F)))
+    (model.entries_frame false p F.carried (model.taken R p F.carried (model.raised (Y.posts p) F)))
 unfolding model.hear_done
 hearing_takes R Y p F e = rw e
 
@@ -43,11 +42,11 @@ hearing_other : (R : model.Roles) (Y : model.Yard) (p : ℕ) (F : model.Frame) �
 unfolding model.hear_done
 hearing_other R Y p F e = rw e
 
-module _ (setup : Setup) where
+module _ (present sources dests : ℕ) where
   abbrev R : model.Roles
-  R = roles_of setup
+  R = roles_of present sources dests
 
-  module _ (w : World) (s : Sound setup w) (lane k : ℕ) (h : Hearing w lane k)
+  module _ (w : World) (s : Sound present sources dests w) (lane k : ℕ) (h : Hearing w lane k)
       (z : hear_refusal (post_at w.yard lane) (frame_at w.air k) ≡ 0)
       (after : YardOk R (model.hear_done R (yard_view w) lane (frame_view (frame_at w.air k)))) where
     abbrev p : posts.Post
@@ -59,18 +58,20 @@ module _ (setup : Setup) where
     abbrev F : model.Frame
     F = frame_view f
 
-    in_yard : InYard setup lane p
+    in_yard : InYard present sources dests lane p
     in_yard = s.post lane h.here
 
     can_hear : Sendable f
     can_hear = (s.on_air k h.on_air).sendable
 
-    q_in_yard : InYard setup lane (heard_post p f)
+    q_in_yard : InYard present sources dests lane (heard_post p f)
     q_in_yard =
         let r = heard_roles p f in
         record {
           its_lane = r.lane ∙ in_yard.its_lane;
-          its_setup = r.setup ∙ in_yard.its_setup;
+          its_posts = r.posts ∙ in_yard.its_posts;
+          its_sources = r.sources ∙ in_yard.its_sources;
+          its_dests = r.dests ∙ in_yard.its_dests;
           shaped = heard_shaped p f can_hear.fits z in_yard.shaped;
           valid = heard_valid p f can_hear.good z in_yard.shaped in_yard.valid;
         }
@@ -78,7 +79,7 @@ module _ (setup : Setup) where
     -- the post after a hearing, where the model's post just before delivery is Q
     view_post : (Q : model.Post) → post_view (heard_post p f) ≡ Q → KeptRise Q → post_view (hear_step p f).post ≡ model.deliver R lane Q
     view_post Q e c =
-        ap post_view (hear_post p f z) ∙ delivers setup lane (heard_post p f) q_in_yard (subst KeptRise (sym e) c) ∙ ap (model.deliver R lane) e
+        ap post_view (hear_post p f z) ∙ delivers present sources dests lane (heard_post p f) q_in_yard (subst KeptRise (sym e) c) ∙ ap (model.deliver R lane) e
 
     -- ---- nothing is taken
 
@@ -90,7 +91,7 @@ module _ (setup : Setup) where
       view_calm =
           view_post (model.raised (post_view p) F)
           (ap post_view (heard_other p f n) ∙ view_raised p f in_yard.shaped can_hear.good can_hear.fits)
-          (rose_before setup
+          (rose_before present sources dests
           (model.silent (yard_view w) lane (model.deliver R lane (model.raised (post_view p) F))) lane (model.raised (post_view p) F)
           (subst (YardOk R) calm after)
           (upd_same (yard_view w).posts lane (model.deliver R lane (model.raised (post_view p) F))))
@@ -107,15 +108,16 @@ module _ (setup : Setup) where
           })
           ∙ sym calm
 
-      pub hear_silent_sound : Sound setup (single w (hear lane k))
+      pub hear_silent_sound : Sound present sources dests (single w (hear lane k))
       hear_silent_sound = rw (hear_silent w lane k h (hear_no_frame p f z n)) (record {
-        its_setup = s.its_setup;
+        its_present = s.its_present;
+        its_sources = s.its_sources;
         eight = length-set w.yard.posts lane (hear_step p f).post ∙ s.eight;
         counts = s.counts;
         places = s.places;
         whole = s.whole;
-        post = posts_in_yard setup w.yard.posts lane (hear_step p f).post s.eight h.here s.post
-            (hear_in_yard setup lane p f can_hear in_yard);
+        post = posts_in_yard present sources dests w.yard.posts lane (hear_step p f).post s.eight h.here s.post
+            (hear_in_yard present sources dests lane p f can_hear in_yard);
         on_air = s.on_air;
       })
 
@@ -126,7 +128,7 @@ module _ (setup : Setup) where
       Q = model.taken R lane F.carried (model.raised (post_view p) F)
 
       took : model.hear_done R (yard_view w) lane F
-          ≡ model.spoken (yard_view w) lane (model.deliver R lane Q) (model.entries_frame R false lane F.carried Q)
+          ≡ model.spoken (yard_view w) lane (model.deliver R lane Q) (model.entries_frame false lane F.carried Q)
       took = hearing_takes R (yard_view w) lane F (view_takes p f ∙ n)
 
       can_send : Sendable (hear_step p f).frame
@@ -135,27 +137,26 @@ module _ (setup : Setup) where
       view_q : post_view (taken p f) ≡ Q
       view_q =
           view_taken p f in_yard.shaped in_yard.valid can_hear.good can_hear.fits n R
-          (ap (λ (x : Setup). has_lane x.sources p.lane) (sym in_yard.its_setup))
+          (ap (λ (x : ℕ). has_lane x p.lane) (sym in_yard.its_sources))
           ∙ ap (λ (i : ℕ). model.taken R i F.carried (model.raised (post_view p) F)) in_yard.its_lane
 
       view_took : post_view (hear_step p f).post ≡ model.deliver R lane Q
       view_took =
           view_post Q (ap post_view (heard_taken p f n) ∙ view_q)
-          (rose_before setup
-          (model.spoken (yard_view w) lane (model.deliver R lane Q) (model.entries_frame R false lane F.carried Q)) lane Q
+          (rose_before present sources dests
+          (model.spoken (yard_view w) lane (model.deliver R lane Q) (model.entries_frame false lane F.carried Q)) lane Q
           (subst (YardOk R) took after)
           (upd_same (yard_view w).posts lane (model.deliver R lane Q)))
 
-      taken_in_yard : InYard setup lane (taken p f)
-      taken_in_yard = subst (InYard setup lane) (heard_taken p f n) q_in_yard
+      taken_in_yard : InYard present sources dests lane (taken p f)
+      taken_in_yard = subst (InYard present sources dests lane) (heard_taken p f n) q_in_yard
 
-      view_frame : frame_view (hear_step p f).frame ≡ model.entries_frame R false lane F.carried Q
+      view_frame : frame_view (hear_step p f).frame ≡ model.entries_frame false lane F.carried Q
       view_frame =
           ap frame_view (hear_frame p f z n)
           ∙ view_order_frame (taken p f) f.lane f.serial.0 f.stamp.0 f.word taken_in_yard.shaped
-          ∙ ap (λ (x : Setup). model.entries_frame (roles_of x) false (taken p f).lane F.carried (post_view (taken p f))) taken_in_yard.its_setup
-          ∙ ap (λ (i : ℕ). model.entries_frame R false i F.carried (post_view (taken p f))) taken_in_yard.its_lane
-          ∙ ap (model.entries_frame R false lane F.carried) view_q
+          ∙ ap (λ (i : ℕ). model.entries_frame false i F.carried (post_view (taken p f))) taken_in_yard.its_lane
+          ∙ ap (model.entries_frame false lane F.carried) view_q
 
       pub hear_spoken_view : yard_view (single w (hear lane k)) ≡ model.hear_done R (yard_view w) lane F
       hear_spoken_view =
@@ -170,14 +171,15 @@ module _ (setup : Setup) where
           })
           ∙ sym took
 
-      pub hear_spoken_sound : Sound setup (single w (hear lane k))
+      pub hear_spoken_sound : Sound present sources dests (single w (hear lane k))
       hear_spoken_sound = rw (hear_spoken w lane k h room can_send) (record {
-        its_setup = s.its_setup;
+        its_present = s.its_present;
+        its_sources = s.its_sources;
         eight = length-set w.yard.posts lane (hear_step p f).post ∙ s.eight;
         counts = s.counts;
         places = s.places;
         whole = length_stays w.air w.yard.frames (hear_step p f).frame ∙ s.whole;
-        post = posts_in_yard setup w.yard.posts lane (hear_step p f).post s.eight h.here s.post
-            (hear_in_yard setup lane p f can_hear in_yard);
+        post = posts_in_yard present sources dests w.yard.posts lane (hear_step p f).post s.eight h.here s.post
+            (hear_in_yard present sources dests lane p f can_hear in_yard);
         on_air = on_air_more w.air w.yard.frames (hear_step p f).frame s.whole room can_send s.on_air;
       })

@@ -9,7 +9,6 @@ use lib.ListN.{length}
 use borrow.Author.Tests.{lt-ltb, le-ltb, le-leb, lt-leb, eq-eqb}
 use Rattle.cells.specs.Sets.{has_lane}
 use Rattle.frame.specs.declared.Frame as frames
-use Rattle.setup.specs.declared.Setup.{Setup}
 use Rattle.post.specs.declared.Post as posts
 use Rattle.post.specs.Record.{last_of}
 use Rattle.deliver.specs.Delivery.{delivered}
@@ -50,14 +49,14 @@ hear_zero p f z = rw z (go (is_next f (last_of p f.lane)))
     go true = refl
     go false = other (is_order f) (leb f.serial.0 (last_of p f.lane)) (delivered (raised_post p f)).count
 
-module _ (setup : Setup) where
+module _ (present sources dests : ℕ) where
   abbrev R : model.Roles
-  R = roles_of setup
+  R = roles_of present sources dests
 
   -- whether a lane has a post, by its record and by the yard's set
-  pub not_in_yard_lem : (w : World) → Sound setup w → (lane : ℕ) → lane < 8
-      → not_in_yard (post_at w.yard lane).setup.posts (post_at w.yard lane).lane ≡ not (has_lane setup.posts lane)
-  not_in_yard_lem w s lane l = let i = s.post lane l in rw (i.its_setup, i.its_lane)
+  pub not_in_yard_lem : (w : World) → Sound present sources dests w → (lane : ℕ) → lane < 8
+      → not_in_yard (post_at w.yard lane).posts (post_at w.yard lane).lane ≡ not (has_lane present lane)
+  not_in_yard_lem w s lane l = let i = s.post lane l in rw (i.its_posts, i.its_lane)
 
   -- ---- the numbers of a hearing
 
@@ -65,26 +64,26 @@ module _ (setup : Setup) where
   unfolding hear_yard_refusal
   hear_yard_4 w lane k l = rw (lt-ltb 7 lane (omega arith))
 
-  hear_yard_25 : (w : World) → Sound setup w → (lane k : ℕ) → lane < 8 → w.yard.frames ≤ k → has_lane setup.posts lane ≡ true
+  hear_yard_25 : (w : World) → Sound present sources dests w → (lane k : ℕ) → lane < 8 → w.yard.frames ≤ k → has_lane present lane ≡ true
       → hear_yard_refusal w lane k ≡ 25
   unfolding hear_yard_refusal
   hear_yard_25 w s lane k l h e =
-      rw (le-ltb 7 lane (omega arith), eq-eqb (length w.air) 65536 s.whole, s.its_setup, e, le-leb w.yard.frames k h)
+      rw (le-ltb 7 lane (omega arith), eq-eqb (length w.air) 65536 s.whole, s.its_present, e, le-leb w.yard.frames k h)
 
-  hear_yard_21 : (w : World) → Sound setup w → (lane k : ℕ) → lane < 8 → has_lane setup.posts lane ≡ false → hear_yard_refusal w lane k ≡ 21
+  hear_yard_21 : (w : World) → Sound present sources dests w → (lane k : ℕ) → lane < 8 → has_lane present lane ≡ false → hear_yard_refusal w lane k ≡ 21
   unfolding hear_yard_refusal
-  hear_yard_21 w s lane k l e = rw (le-ltb 7 lane (omega arith), eq-eqb (length w.air) 65536 s.whole, s.its_setup, e)
+  hear_yard_21 w s lane k l e = rw (le-ltb 7 lane (omega arith), eq-eqb (length w.air) 65536 s.whole, s.its_present, e)
 
-  hear_yard_post : (w : World) → Sound setup w → (lane k : ℕ) → lane < 8 → k < w.yard.frames
-      → hear_yard_refusal w lane k ≡ cond (not (has_lane setup.posts lane)) 21 (cond (eqb (frame_at w.air k).sender lane) 26 0)
+  hear_yard_post : (w : World) → Sound present sources dests w → (lane k : ℕ) → lane < 8 → k < w.yard.frames
+      → hear_yard_refusal w lane k ≡ cond (not (has_lane present lane)) 21 (cond (eqb (frame_at w.air k).sender lane) 26 0)
   unfolding hear_yard_refusal
   hear_yard_post w s lane k l h =
-      rw (le-ltb 7 lane (omega arith), eq-eqb (length w.air) 65536 s.whole, s.its_setup, lt-leb w.yard.frames k h)
+      rw (le-ltb 7 lane (omega arith), eq-eqb (length w.air) 65536 s.whole, s.its_present, lt-leb w.yard.frames k h)
 
   -- ---- hear
 
-  module _ (w : World) (s : Sound setup w) (fit : Fit setup (yard_view w)) (lane k : ℕ)
-      (after : Fit setup (model.step R (yard_view w) (hear lane k))) where
+  module _ (w : World) (s : Sound present sources dests w) (fit : Fit present sources dests (yard_view w)) (lane k : ℕ)
+      (after : Fit present sources dests (model.step R (yard_view w) (hear lane k))) where
     module _ (l : lane < 8) (there : k < w.yard.frames) where
       abbrev p : posts.Post
       p = post_at w.yard lane
@@ -104,7 +103,7 @@ module _ (setup : Setup) where
       its_number : hear_yard_refusal w lane k ≡ hear_refusal p f
       its_number =
           hear_yard_post w s lane k l there
-          ∙ sym (hear_number_lem setup w s fit.ok fit.low lane l f
+          ∙ sym (hear_number_lem present sources dests w s fit.ok fit.low lane l f
           (subst (FrameOk R (yard_view w).posts) (air_at w k there) (fit.ok.frames_ok k there))
           (s.on_air k there).sendable)
 
@@ -117,7 +116,7 @@ module _ (setup : Setup) where
 
         done_step : model.step R Y (hear lane k) ≡ model.hear_done R Y lane (frame_view f)
         unfolding model.step
-        done_step = rw (hear_numbers setup w s lane k ∙ c) (ap (model.hear_done R Y lane) (air_at w k there))
+        done_step = rw (hear_numbers present sources dests w s lane k ∙ c) (ap (model.hear_done R Y lane) (air_at w k there))
 
         next : YardOk R (model.hear_done R Y lane (frame_view f))
         next = subst (YardOk R) done_step after.ok
@@ -126,21 +125,21 @@ module _ (setup : Setup) where
         unfolding answer
         accepted_number = rw (hear_answer w lane k hearing, c) (hear_zero p f z)
 
-        hear_accepted : Simulates setup w (hear lane k)
+        hear_accepted : Simulates present sources dests w (hear lane k)
         unfolding sent_by model.sent_by
         hear_accepted = go (true_or_false (is_next f (last_of p f.lane)))
           where
-            go : (is_next f (last_of p f.lane) ≡ true) ⊎ (is_next f (last_of p f.lane) ≡ false) → Simulates setup w (hear lane k)
+            go : (is_next f (last_of p f.lane) ≡ true) ⊎ (is_next f (last_of p f.lane) ≡ false) → Simulates present sources dests w (hear lane k)
             go (inr n) = record {
-              view = hear_silent_view setup w s lane k hearing z next n ∙ sym done_step;
-              sound = hear_silent_sound setup w s lane k hearing z next n;
+              view = hear_silent_view present sources dests w s lane k hearing z next n ∙ sym done_step;
+              sound = hear_silent_sound present sources dests w s lane k hearing z next n;
               number = accepted_number;
               stays = λ h. absurd (omega (arith, c));
               sends = refl;
             }
             go (inl n) = record {
-              view = hear_spoken_view setup w s lane k hearing z next n room ∙ sym done_step;
-              sound = hear_spoken_sound setup w s lane k hearing z next n room;
+              view = hear_spoken_view present sources dests w s lane k hearing z next n room ∙ sym done_step;
+              sound = hear_spoken_sound present sources dests w s lane k hearing z next n room;
               number = accepted_number;
               stays = λ h. absurd (omega (arith, c));
               sends = refl;
@@ -154,29 +153,29 @@ module _ (setup : Setup) where
                       after.room,
                     )
 
-      hear_there : Simulates setup w (hear lane k)
+      hear_there : Simulates present sources dests w (hear lane k)
       hear_there = go (same_or_not (hear_refusal p f) 0)
         where
-          go : (hear_refusal p f ≡ 0) ⊎ (hear_refusal p f ≢ 0) → Simulates setup w (hear lane k)
+          go : (hear_refusal p f ≡ 0) ⊎ (hear_refusal p f ≢ 0) → Simulates present sources dests w (hear lane k)
           go (inl z) = hear_accepted z
           go (inr n) =
-              hear_refused_same setup w s lane k (hear_refusal p f) (hear_refused_here w lane k hearing n) n its_number
-              (hear_numbers setup w s lane k ∙ its_number)
+              hear_refused_same present sources dests w s lane k (hear_refusal p f) (hear_refused_here w lane k hearing n) n its_number
+              (hear_numbers present sources dests w s lane k ∙ its_number)
 
-    pub hear_simulates : Simulates setup w (hear lane k)
-    hear_simulates = go (below_or_not lane 8) (below_or_not k w.yard.frames) (true_or_false (has_lane setup.posts lane))
+    pub hear_simulates : Simulates present sources dests w (hear lane k)
+    hear_simulates = go (below_or_not lane 8) (below_or_not k w.yard.frames) (true_or_false (has_lane present lane))
       where
-        go : (lane < 8) ⊎ (8 ≤ lane) → (k < w.yard.frames) ⊎ (w.yard.frames ≤ k) → (has_lane setup.posts lane ≡ true) ⊎ (has_lane setup.posts lane ≡ false)
-            → Simulates setup w (hear lane k)
+        go : (lane < 8) ⊎ (8 ≤ lane) → (k < w.yard.frames) ⊎ (w.yard.frames ≤ k) → (has_lane present lane ≡ true) ⊎ (has_lane present lane ≡ false)
+            → Simulates present sources dests w (hear lane k)
         go (inr l) h e =
             let c = hear_yard_4 w lane k l in
-            hear_refused_same setup w s lane k 4 (hear_4 w lane k l) (omega arith) c (hear_numbers setup w s lane k ∙ c)
+            hear_refused_same present sources dests w s lane k 4 (hear_4 w lane k l) (omega arith) c (hear_numbers present sources dests w s lane k ∙ c)
         go (inl l) (inl h) e = hear_there l h
         go (inl l) (inr h) (inl e) =
             let c = hear_yard_25 w s lane k l h e in
-            hear_refused_same setup w s lane k 25 (hear_25 w lane k l s.whole h (not_in_yard_lem w s lane l ∙ ap not e)) (omega arith) c
-            (hear_numbers setup w s lane k ∙ c)
+            hear_refused_same present sources dests w s lane k 25 (hear_25 w lane k l s.whole h (not_in_yard_lem w s lane l ∙ ap not e)) (omega arith) c
+            (hear_numbers present sources dests w s lane k ∙ c)
         go (inl l) (inr h) (inr e) =
             let c = hear_yard_21 w s lane k l e in
-            hear_refused_same setup w s lane k 21 (hear_21 w lane k l s.whole h (not_in_yard_lem w s lane l ∙ ap not e)) (omega arith) c
-            (hear_numbers setup w s lane k ∙ c)
+            hear_refused_same present sources dests w s lane k 21 (hear_21 w lane k l s.whole h (not_in_yard_lem w s lane l ∙ ap not e)) (omega arith) c
+            (hear_numbers present sources dests w s lane k ∙ c)

@@ -52,7 +52,7 @@ hear_13 w lane k l n =
 
 -- 21 and 25, where there is no frame k
 pub hear_25 : (w : World) (lane k : ℕ) → lane < 8 → length w.air ≡ 65536 → w.yard.frames ≤ k
-    → not_in_yard (post_at w.yard lane).setup.posts (post_at w.yard lane).lane ≡ false
+    → not_in_yard (post_at w.yard lane).posts (post_at w.yard lane).lane ≡ false
     → HearStays w lane k 25
 unfolding post_hears post_hears_air
 hear_25 w lane k l e h i =
@@ -61,7 +61,7 @@ hear_25 w lane k l e h i =
     (rw (eq-eqb (length w.air) 65536 e, le-ltb k w.yard.frames h, i))
 
 pub hear_21 : (w : World) (lane k : ℕ) → lane < 8 → length w.air ≡ 65536 → w.yard.frames ≤ k
-    → not_in_yard (post_at w.yard lane).setup.posts (post_at w.yard lane).lane ≡ true
+    → not_in_yard (post_at w.yard lane).posts (post_at w.yard lane).lane ≡ true
     → HearStays w lane k 21
 unfolding post_hears post_hears_air
 hear_21 w lane k l e h i =

@@ -7,7 +7,6 @@ use native.Mathlib.Numerals.{add-one}
 use lib.ListN.{length-set}
 use Rattle.air.proofs.Stretches.{length_stays}
 use Rattle.cells.specs.Tables.{order_place}
-use Rattle.setup.specs.declared.Setup.{Setup}
 use Rattle.post.specs.declared.Post as posts
 use Rattle.post.specs.Taking.{own_taken}
 use Rattle.steps.specs.Refusals.{order_refusal}
@@ -41,11 +40,11 @@ order_carried : (P : model.Post) (lane word : ℕ)
     (model.order_of (model.own_taken lane word P) lane (suc P.own))
 order_carried P lane word = rw (upd2_same P.stamps lane (suc P.own) (suc P.clock), upd2_same P.words lane (suc P.own) word)
 
-module _ (setup : Setup) where
+module _ (present sources dests : ℕ) where
   abbrev R : model.Roles
-  R = roles_of setup
+  R = roles_of present sources dests
 
-  module _ (w : World) (s : Sound setup w) (lane word : ℕ) (here : lane < 8) (small : word ≤ 65535)
+  module _ (w : World) (s : Sound present sources dests w) (lane word : ℕ) (here : lane < 8) (small : word ≤ 65535)
       (z : order_refusal (post_at w.yard lane) ≡ 0) (room : w.yard.frames < 2048)
       (after : YardOk R (model.order_done R (yard_view w) lane word)) where
     abbrev p : posts.Post
@@ -54,7 +53,7 @@ module _ (setup : Setup) where
     abbrev q : posts.Post
     q = own_taken p word
 
-    in_yard : InYard setup lane p
+    in_yard : InYard present sources dests lane p
     in_yard = s.post lane here
 
     can_send : Sendable (order_step p word).frame
@@ -69,12 +68,14 @@ module _ (setup : Setup) where
         view_ordered p word in_yard.shaped in_yard.valid (orderable p z).serial
         ∙ ap (λ (i : ℕ). model.own_taken i word (post_view p)) in_yard.its_lane
 
-    q_in_yard : InYard setup lane q
+    q_in_yard : InYard present sources dests lane q
     q_in_yard =
         let r = ordered_roles p word in
         record {
           its_lane = r.lane ∙ in_yard.its_lane;
-          its_setup = r.setup ∙ in_yard.its_setup;
+          its_posts = r.posts ∙ in_yard.its_posts;
+          its_sources = r.sources ∙ in_yard.its_sources;
+          its_dests = r.dests ∙ in_yard.its_dests;
           shaped = ordered_shaped p word z (omega arith) in_yard.shaped;
           valid = ordered_valid p word z in_yard.shaped in_yard.valid;
         }
@@ -82,12 +83,12 @@ module _ (setup : Setup) where
     rises : KeptRise (post_view q)
     rises =
         subst KeptRise (sym view_q)
-        (rose_before setup (model.order_done R (yard_view w) lane word) lane (model.own_taken lane word (post_view p)) after
+        (rose_before present sources dests (model.order_done R (yard_view w) lane word) lane (model.own_taken lane word (post_view p)) after
         (upd_same (yard_view w).posts lane (model.deliver R lane (model.own_taken lane word (post_view p)))))
 
     -- the post after it
     view_post : post_view (order_step p word).post ≡ model.deliver R lane (model.own_taken lane word (post_view p))
-    view_post = ap post_view (order_post p word z) ∙ delivers setup lane q q_in_yard rises ∙ ap (model.deliver R lane) view_q
+    view_post = ap post_view (order_post p word z) ∙ delivers present sources dests lane q q_in_yard rises ∙ ap (model.deliver R lane) view_q
 
     -- the order that it carries
     carried : sent_order word p.lane (p.serial.0 + 1) (p.clock.0 + 1) ≡ sent_order word lane (suc p.serial.0) (suc p.clock.0)
@@ -95,14 +96,13 @@ module _ (setup : Setup) where
 
     -- its broadcast
     view_frame : frame_view (order_step p word).frame
-        ≡ model.entries_frame R false lane (model.order_of (model.own_taken lane word (post_view p)) lane (suc (post_view p).own)) (model.own_taken lane word (post_view p))
+        ≡ model.entries_frame false lane (model.order_of (model.own_taken lane word (post_view p)) lane (suc (post_view p).own)) (model.own_taken lane word (post_view p))
     view_frame =
         ap frame_view (order_frame_lem p word z)
         ∙ view_order_frame q p.lane (p.serial.0 + 1) (p.clock.0 + 1) word q_in_yard.shaped
-        ∙ ap (λ (x : Setup). model.entries_frame (roles_of x) false q.lane (sent_order word p.lane (p.serial.0 + 1) (p.clock.0 + 1)) (post_view q)) q_in_yard.its_setup
-        ∙ ap (λ (i : ℕ). model.entries_frame R false i (sent_order word p.lane (p.serial.0 + 1) (p.clock.0 + 1)) (post_view q)) q_in_yard.its_lane
-        ∙ ap (λ (o : Order). model.entries_frame R false lane o (post_view q)) (carried ∙ order_carried (post_view p) lane word)
-        ∙ ap (model.entries_frame R false lane (model.order_of (model.own_taken lane word (post_view p)) lane (suc (post_view p).own))) view_q
+        ∙ ap (λ (i : ℕ). model.entries_frame false i (sent_order word p.lane (p.serial.0 + 1) (p.clock.0 + 1)) (post_view q)) q_in_yard.its_lane
+        ∙ ap (λ (o : Order). model.entries_frame false lane o (post_view q)) (carried ∙ order_carried (post_view p) lane word)
+        ∙ ap (model.entries_frame false lane (model.order_of (model.own_taken lane word (post_view p)) lane (suc (post_view p).own))) view_q
 
     -- the yard after it
     pub order_view : yard_view (single w (order lane word)) ≡ model.order_done R (yard_view w) lane word
@@ -116,14 +116,15 @@ module _ (setup : Setup) where
           ∙ ap (λ (n : ℕ). upd2 (places_view w.yard.first) lane n w.yard.frames) (add-one p.serial.0)) t;
     }
 
-    pub order_sound : Sound setup (single w (order lane word))
+    pub order_sound : Sound present sources dests (single w (order lane word))
     order_sound = rw order_is_done.leaves (record {
-      its_setup = s.its_setup;
+      its_present = s.its_present;
+      its_sources = s.its_sources;
       eight = length-set w.yard.posts lane (order_step p word).post ∙ s.eight;
       counts = s.counts;
       places = length-set w.yard.first (order_place lane (p.serial.0 + 1)) w.yard.frames ∙ s.places;
       whole = length_stays w.air w.yard.frames (order_step p word).frame ∙ s.whole;
-      post = posts_in_yard setup w.yard.posts lane (order_step p word).post s.eight here s.post
-          (order_in_yard setup lane p word (omega arith) in_yard);
+      post = posts_in_yard present sources dests w.yard.posts lane (order_step p word).post s.eight here s.post
+          (order_in_yard present sources dests lane p word (omega arith) in_yard);
       on_air = on_air_more w.air w.yard.frames (order_step p word).frame s.whole room can_send s.on_air;
     })

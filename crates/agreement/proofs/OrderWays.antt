@@ -71,7 +71,8 @@ order_refused_here w lane word l b e n =
 abbrev pub ordered_world : World → ℕ → Post → Frame → ℕ → World
 ordered_world w lane q f serial = record {
   yard = record {
-    setup = w.yard.setup;
+    present = w.yard.present;
+    sources = w.yard.sources;
     posts = set w.yard.posts lane q;
     frames = w.yard.frames + 1;
     beacons = w.yard.beacons;

@@ -14,7 +14,6 @@ use Rattle.frame.specs.Types.{Typed}
 use Rattle.frame.specs.Refusals.{frame_refusal}
 use Rattle.cells.specs.Tables.{stamp_under, with_stamp, order_place}
 use Rattle.cells.proofs.Places.{order_lane, order_serial_lem}
-use Rattle.setup.specs.declared.Setup.{Setup}
 use Rattle.post.specs.declared.Post.{Post}
 use Rattle.post.specs.Record.{is_source, last_of, with_clock, fresh_post}
 use Rattle.post.specs.Newest.{raised_below}
@@ -162,7 +161,7 @@ view_taken p f s v z c n R r = rw r (go (is_source p p.lane))
     words = places_set p.words f.lane f.serial.0 f.word s.words order.lane order.some few
 
     roles : Bool → model.Roles
-    roles b = record { source = λ i. b; dest = R.dest; present = R.present; sends = R.sends }
+    roles b = record { source = λ i. b; dest = R.dest; present = R.present }
 
     go : (b : Bool) → post_view (cond b (ticked q p.serial.0 clock) q)
         ≡ model.taken (roles b) p.lane (frame_view f).carried (model.raised (post_view p) (frame_view f))
@@ -188,9 +187,9 @@ view_takes p f = go (is_order f)
 -- ---- nothing yet
 
 -- a fresh post
-pub view_fresh : (lane : ℕ) (setup : Setup) → post_view (fresh_post lane setup) ≡ model.fresh_post
+pub view_fresh : (lane posts sources dests : ℕ) → post_view (fresh_post lane posts sources dests) ≡ model.fresh_post
 unfolding model.fresh_post
-view_fresh lane setup = λ t. record {
+view_fresh lane posts sources dests = λ t. record {
   clock = 0;
   own = 0;
   last = lanes_zeros 8 t;

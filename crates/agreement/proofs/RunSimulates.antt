@@ -2,11 +2,10 @@
 use mathlib.Core.Path.{◌≡◌, refl, sym, ap, ◌∙◌, subst}
 use mathlib.Core.List.{List, [], ◌∷◌, ◌++◌}
 use mathlib.Core.Logic.{◌⊎◌, inl, inr, ◌≢◌}
-use Prim.Native.Nat.{◌<◌}
+use Prim.Native.Nat.{ℕ, ◌-◌, ◌<◌}
 use native.Mathlib.Omega.{arith}
 use lib.ListN.{length}
 use borrow.Author.Tests.{eq-eqb, ne_eqb}
-use Rattle.setup.specs.declared.Setup.{Setup}
 use Rattle.yard.specs.Worlds.{World, Single, singles}
 use Rattle.roll.specs.RollCall.{roll_steps, source_spent, roll_refusal, roll_call, roll_call_air}
 use Rattle.roll.specs.Runs.{Step, one, roll, answer, step, run, Order, sent_by, sent}
@@ -21,15 +20,15 @@ use Rattle.agreement.proofs.Sound.{Sound}
 use Rattle.agreement.proofs.Simulates.{Fit, Simulates}
 use Rattle.agreement.proofs.ListSimulates.{one_simulates, ListSimulates, list_simulates, roll_same}
 
-module _ (setup : Setup) (ro : RolesOk (roles_of setup)) where
+module _ (present sources dests : ℕ) (ro : RolesOk (roles_of present sources dests)) where
   abbrev R : model.Roles
-  R = roles_of setup
+  R = roles_of present sources dests
 
   -- the invariant, whatever was sent
   abbrev pub Keeps : model.Yard → Type 0
   Keeps Y = (S : List Order) × Good R ro Y S
 
-  pub fits : (Y : model.Yard) → Keeps Y → Fit setup Y
+  pub fits : (Y : model.Yard) → Keeps Y → Fit present sources dests Y
   fits Y g = record {
     ok = g.1.yard_ok;
     low = good_clock R ro Y g.0 g.1;
@@ -42,7 +41,7 @@ module _ (setup : Setup) (ro : RolesOk (roles_of setup)) where
   -- what a step of a list does, seen in the model
   pub record StepSimulates (w : World) (s : Step) : Type 0 where
     pub view : yard_view (step w s) ≡ move R (yard_view w) s
-    pub sound : Sound setup (step w s)
+    pub sound : Sound present sources dests (step w s)
     pub number : answer_number (answer w s) ≡ step_refusal w s
     pub stays : 0 < step_refusal w s → step w s ≡ w
     pub sends : sent_by w s ≡ sent_in R (yard_view w) s
@@ -50,9 +49,9 @@ module _ (setup : Setup) (ro : RolesOk (roles_of setup)) where
   -- ---- a roll call
 
   -- it is refused as the model's is
-  pub roll_number_lem : (w : World) → Sound setup w → roll_refusal w ≡ roll_refused R (yard_view w)
+  pub roll_number_lem : (w : World) → Sound present sources dests w → roll_refusal w ≡ roll_refused R (yard_view w)
   unfolding roll_refusal source_spent roll_refused
-  roll_number_lem w s = rw (eq-eqb (length w.air) 65536 s.whole, s.its_setup)
+  roll_number_lem w s = rw (eq-eqb (length w.air) 65536 s.whole, s.its_sources)
 
   pub roll_done : (w : World) → roll_refusal w ≡ 0 → step w roll ≡ singles w (roll_steps w)
   unfolding step roll_call roll_call_air
@@ -70,17 +69,17 @@ module _ (setup : Setup) (ro : RolesOk (roles_of setup)) where
       go (inl z) = rw z
       go (inr n) = rw (ne_eqb (roll_refusal w) 0 n)
 
-  roll_simulates : (w : World) → Sound setup w → Keeps (yard_view w) → StepSimulates w roll
+  roll_simulates : (w : World) → Sound present sources dests w → Keeps (yard_view w) → StepSimulates w roll
   unfolding move sent_in sent_by
   roll_simulates w s g = go (same_or_not (roll_refusal w) 0)
     where
-      ran : ListSimulates setup Keeps fits next w (roll_steps w)
-      ran = list_simulates setup Keeps fits next w s g (roll_steps w)
+      ran : ListSimulates present sources dests Keeps fits next w (roll_steps w)
+      ran = list_simulates present sources dests Keeps fits next w s g (roll_steps w)
 
       go : (roll_refusal w ≡ 0) ⊎ (roll_refusal w ≢ 0) → StepSimulates w roll
       go (inl z) = record {
         view = rw (sym (roll_number_lem w s) ∙ z)
-            (ap yard_view (roll_done w z) ∙ ran.view ∙ ap (model.run R (yard_view w)) (roll_same setup Keeps fits next w s g));
+            (ap yard_view (roll_done w z) ∙ ran.view ∙ ap (model.run R (yard_view w)) (roll_same present sources dests Keeps fits next w s g));
         sound = rw (roll_done w z) ran.sound;
         number = roll_answers w;
         stays = λ h. absurd (omega (arith, z));
@@ -96,21 +95,21 @@ module _ (setup : Setup) (ro : RolesOk (roles_of setup)) where
 
   -- ---- every step
 
-  pub step_simulates : (w : World) → Sound setup w → Keeps (yard_view w) → (s : Step) → StepSimulates w s
+  pub step_simulates : (w : World) → Sound present sources dests w → Keeps (yard_view w) → (s : Step) → StepSimulates w s
   step_simulates w s g roll = roll_simulates w s g
-  step_simulates w s g (one x) = one_step x (one_simulates setup Keeps fits next w s g x)
+  step_simulates w s g (one x) = one_step x (one_simulates present sources dests Keeps fits next w s g x)
     where
-      one_step : (x : Single) → Simulates setup w x → StepSimulates w (one x)
+      one_step : (x : Single) → Simulates present sources dests w x → StepSimulates w (one x)
       one_step x m = unfold step move sent_in in record { view = m.view; sound = m.sound; number = m.number; stays = m.stays; sends = m.sends }
 
   -- ---- lists of steps
 
   pub record RunSimulates (w : World) (l : List Step) : Type 0 where
     pub view : yard_view (run w l) ≡ moves R (yard_view w) l
-    pub sound : Sound setup (run w l)
+    pub sound : Sound present sources dests (run w l)
     pub sends : sent w l ≡ all_sent R (yard_view w) l
 
-  pub run_simulates : (w : World) → Sound setup w → Keeps (yard_view w) → (l : List Step) → RunSimulates w l
+  pub run_simulates : (w : World) → Sound present sources dests w → Keeps (yard_view w) → (l : List Step) → RunSimulates w l
   unfolding run sent moves all_sent
   run_simulates w s g [] = record { view = refl; sound = s; sends = refl }
   run_simulates w s g (x ∷ l) =

@@ -11,7 +11,6 @@ use Rattle.frame.specs.declared.Frame.{Frame}
 use Rattle.frame.specs.Refusals.{read_refusal}
 use Rattle.frame.specs.Layout.{frame_of}
 use Rattle.air.specs.Air.{stretch_at, frames_with}
-use Rattle.setup.specs.declared.Setup.{Setup}
 use Rattle.post.specs.declared.Post.{Post}
 use Rattle.post.specs.Record.{is_source, last_of}
 use Rattle.post.specs.Taking.{kept, ticked, own_taken, raised_post, taken}
@@ -29,13 +28,15 @@ use Rattle.laws.proofs.StepLaws.{order_shaped, order_valid, hear_shaped, hear_va
 use Rattle.laws.proofs.Broadcasts.{Sendable}
 use Rattle.agreement.proofs.AirViews.{spoken_frame, spoken_read, spoken_before}
 
--- two records of one post in one yard
+-- two records of one post with one set of roles
 pub record SameRoles (p q : Post) : Type 0 where
   pub lane : q.lane ≡ p.lane
-  pub setup : q.setup ≡ p.setup
+  pub posts : q.posts ≡ p.posts
+  pub sources : q.sources ≡ p.sources
+  pub dests : q.dests ≡ p.dests
 
 pub same_roles : (p : Post) → SameRoles p p
-same_roles p = record { lane = refl; setup = refl }
+same_roles p = record { lane = refl; posts = refl; sources = refl; dests = refl }
 
 -- ---- the steps of a post keep its lane and roles
 
@@ -44,16 +45,18 @@ delivered_roles q =
     let e = delivered_log_only q in
     record {
       lane = ap (λ (r : Post). r.lane) e;
-      setup = ap (λ (r : Post). r.setup) e;
+      posts = ap (λ (r : Post). r.posts) e;
+      sources = ap (λ (r : Post). r.sources) e;
+      dests = ap (λ (r : Post). r.dests) e;
     }
 
 pub ordered_roles : (p : Post) (word : ℕ) → SameRoles p (own_taken p word)
 unfolding own_taken kept ticked
-ordered_roles p word = record { lane = refl; setup = refl }
+ordered_roles p word = record { lane = refl; posts = refl; sources = refl; dests = refl }
 
 raised_roles : (p : Post) (f : Frame) → SameRoles p (raised_post p f)
 unfolding raised_post
-raised_roles p f = record { lane = refl; setup = refl }
+raised_roles p f = record { lane = refl; posts = refl; sources = refl; dests = refl }
 
 pub taken_roles : (p : Post) (f : Frame) → SameRoles p (taken p f)
 unfolding taken raised_post kept ticked
@@ -63,8 +66,8 @@ taken_roles p f = go (is_source p p.lane)
     q = kept (raised_post p f) f.lane f.serial.0 f.stamp.0 f.word
 
     go : (b : Bool) → SameRoles p (cond b (ticked q p.serial.0 (max p.clock.0 f.stamp.0 + 1)) q)
-    go true = record { lane = refl; setup = refl }
-    go false = record { lane = refl; setup = refl }
+    go true = record { lane = refl; posts = refl; sources = refl; dests = refl }
+    go false = record { lane = refl; posts = refl; sources = refl; dests = refl }
 
 pub heard_roles : (p : Post) (f : Frame) → SameRoles p (heard_post p f)
 heard_roles p f = go (true_or_false (is_next f (last_of p f.lane)))
@@ -76,7 +79,9 @@ heard_roles p f = go (true_or_false (is_next f (last_of p f.lane)))
 pub then_roles : (p q r : Post) → SameRoles p q → SameRoles q r → SameRoles p r
 then_roles p q r a b = record {
   lane = b.lane ∙ a.lane;
-  setup = b.setup ∙ a.setup;
+  posts = b.posts ∙ a.posts;
+  sources = b.sources ∙ a.sources;
+  dests = b.dests ∙ a.dests;
 }
 
 pub order_roles : (p : Post) (word : ℕ) → SameRoles p (order_step p word).post
@@ -117,18 +122,22 @@ on_air_more air k f whole room s old j l = go (same_or_not j k)
           readable = rw (spoken_before air k f whole room s j h) (old j h).readable;
         }
 
-module _ (setup : Setup) where
-  -- the record of a lane of the yard with this setup
+module _ (present sources dests : ℕ) where
+  -- the record of a lane of the yard with these sets
   pub record InYard (lane : ℕ) (p : Post) : Type 0 where
     pub its_lane : p.lane ≡ lane
-    pub its_setup : p.setup ≡ setup
+    pub its_posts : p.posts ≡ present
+    pub its_sources : p.sources ≡ sources
+    pub its_dests : p.dests ≡ dests
     pub shaped : Shaped p
     pub valid : Valid p
 
   in_yard_lem : (lane : ℕ) (p q : Post) → InYard lane p → SameRoles p q → Shaped q → Valid q → InYard lane q
   in_yard_lem lane p q i r s v = record {
     its_lane = r.lane ∙ i.its_lane;
-    its_setup = r.setup ∙ i.its_setup;
+    its_posts = r.posts ∙ i.its_posts;
+    its_sources = r.sources ∙ i.its_sources;
+    its_dests = r.dests ∙ i.its_dests;
     shaped = s;
     valid = v;
   }
@@ -144,9 +153,10 @@ module _ (setup : Setup) where
       (hear_shaped p f s.good s.fits i.shaped i.valid)
       (hear_valid p f s.good s.fits i.shaped i.valid)
 
-  -- a yard with this setup and an air of the right length
+  -- a yard with these sets and an air of the right length
   pub record Sound (w : World) : Type 0 where
-    pub its_setup : w.yard.setup ≡ setup
+    pub its_present : w.yard.present ≡ present
+    pub its_sources : w.yard.sources ≡ sources
     pub eight : length w.yard.posts ≡ 8
     pub counts : length w.yard.beacons ≡ 8
     pub places : length w.yard.first ≡ 128

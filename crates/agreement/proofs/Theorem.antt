@@ -2,13 +2,11 @@
 use mathlib.Core.Path.{◌≡◌, refl, sym, ap, ap₂, ◌∙◌, subst}
 use mathlib.Core.List.{List, [], ◌∷◌, ◌++◌, append-nil}
 use mathlib.Core.Logic.{◌⊎◌, inl, inr, ◌≢◌}
-use Prim.Native.Nat.{ℕ, ◌+◌}
+use Prim.Native.Nat.{ℕ, ◌+◌, ◌<◌}
 use native.Mathlib.Omega.{arith}
 use lib.ListN.{length, get_or}
 use borrow.Author.Tests.{ne_eqb}
 use Rattle.cells.specs.Tables.{order_place}
-use Rattle.setup.specs.declared.Setup.{Setup}
-use Rattle.setup.specs.Setups.{EightBits}
 use Rattle.state.specs.Yards.{post_at, beacons_at, fresh_yard, yard_refusal}
 use Rattle.yard.specs.Worlds.{World}
 use Rattle.roll.specs.declared.RollAnswer as calling
@@ -61,44 +59,44 @@ unfolding run
 run_last v [] s = refl
 run_last v (x ∷ l) s = run_last (step v x) l s
 
-module _ (setup : Setup) (air : List ℕ) (small : EightBits setup)
-    (z : yard_refusal setup ≡ 0) where
+module _ (present sources dests : ℕ) (air : List ℕ) (small : present < 256) (smallSources : sources < 256) (smallDests : dests < 256)
+    (z : yard_refusal present sources dests ≡ 0) where
   abbrev w : World
-  w = fresh_world setup air
+  w = fresh_world present sources dests air
 
   -- ---- an air of the right length
 
   module _ (whole : length air ≡ 65536) where
     abbrev R : model.Roles
-    R = roles_of setup
+    R = roles_of present sources dests
 
     pub ro : RolesOk R
-    ro = roles_ok setup small z
+    ro = roles_ok present sources dests small smallSources smallDests z
 
     abbrev Y : model.Yard
     Y = model.fresh (air_view air 0)
 
-    start : Sound setup w
-    start = fresh_sound setup small z air whole
+    start : Sound present sources dests w
+    start = fresh_sound present sources dests small smallSources smallDests z air whole
 
-    start_keeps : Keeps setup ro (yard_view w)
-    start_keeps = ([], subst (λ (X : model.Yard). moving.Good R ro X []) (sym (fresh_view setup air)) (moving.fresh_good R ro (air_view air 0)))
+    start_keeps : Keeps present sources dests ro (yard_view w)
+    start_keeps = ([], subst (λ (X : model.Yard). moving.Good R ro X []) (sym (fresh_view present sources dests air)) (moving.fresh_good R ro (air_view air 0)))
 
-    pub reached : (steps : List Step) → RunSimulates setup ro w steps
-    reached steps = run_simulates setup ro w start start_keeps steps
+    pub reached : (steps : List Step) → RunSimulates present sources dests ro w steps
+    reached steps = run_simulates present sources dests ro w start start_keeps steps
 
     -- the model after the same steps
     view : (steps : List Step) → yard_view (run w steps) ≡ moving.moves R Y steps
-    view steps = (reached steps).view ∙ ap (λ (X : model.Yard). moving.moves R X steps) (fresh_view setup air)
+    view steps = (reached steps).view ∙ ap (λ (X : model.Yard). moving.moves R X steps) (fresh_view present sources dests air)
 
     sends : (steps : List Step) → sent w steps ≡ moving.all_sent R Y steps
-    sends steps = (reached steps).sends ∙ ap (λ (X : model.Yard). moving.all_sent R X steps) (fresh_view setup air)
+    sends steps = (reached steps).sends ∙ ap (λ (X : model.Yard). moving.all_sent R X steps) (fresh_view present sources dests air)
 
     pub good : (steps : List Step) → moving.Good R ro (yard_view (run w steps)) (sent w steps)
     good steps = rw (view steps, sends steps) (moving.good R ro (air_view air 0) steps)
 
-    each : (steps : List Step) (s : Step) → StepSimulates setup ro (run w steps) s
-    each steps s = step_simulates setup ro (run w steps) (reached steps).sound (sent w steps, good steps) s
+    each : (steps : List Step) (s : Step) → StepSimulates present sources dests ro (run w steps) s
+    each steps s = step_simulates present sources dests ro (run w steps) (reached steps).sound (sent w steps, good steps) s
 
     log_is : (steps : List Step) (lane : ℕ) → log_at (run w steps) lane ≡ ((moving.moves R Y steps).posts lane).log
     log_is steps lane = ap (λ (X : model.Yard). (X.posts lane).log) (view steps)
@@ -113,28 +111,28 @@ module _ (setup : Setup) (air : List ℕ) (small : EightBits setup)
         (logs steps more a)
         (rw (append-nil (steps ++ more)) at (logs (steps ++ more) [] b))
 
-    rolls : (steps : List Step) (n : ℕ) → answer (run w steps) roll ≡ called (calling.TheVariants.Called n) → AfterRollCall setup w steps n
+    rolls : (steps : List Step) (n : ℕ) → answer (run w steps) roll ≡ called (calling.TheVariants.Called n) → AfterRollCall present sources dests w steps n
     rolls steps n e =
         let ran = roll_ran (run w steps) n e in
-        let c = moving.called R ro (air_view air 0) steps (rw (count_posts setup small.0) (some_ones setup small z))
+        let c = moving.called R ro (air_view air 0) steps (rw (count_posts present sources dests small) (some_ones present sources dests small smallSources smallDests z))
         (rw (view steps) at (unrefused ran.0)) in
         record {
           logs = λ lane d. rw (log_is (steps ++ (roll ∷ [])) lane, sends (steps ++ (roll ∷ [])), c.none_sent) (c.logs_whole lane d);
-          did = run_last w steps roll ∙ roll_done setup ro (run w steps) ran.0;
+          did = run_last w steps roll ∙ roll_done present sources dests ro (run w steps) ran.0;
           ran = ran.1;
           accepted = all_accepted ran.0;
           formula = ran.1 ∙ counted ∙ c.answer_is
-              ∙ rw (count_posts setup small.0, count_sources setup small.1, sends steps) refl;
+              ∙ rw (count_posts present sources dests small, count_sources present sources dests smallSources, sends steps) refl;
         }
       where
         -- the model's call is not refused either
         unrefused : roll_refusal (run w steps) ≡ 0 → moving.roll_refused R (yard_view (run w steps)) ≡ 0
-        unrefused z = sym (roll_number_lem setup ro (run w steps) (reached steps).sound) ∙ z
+        unrefused z = sym (roll_number_lem present sources dests ro (run w steps) (reached steps).sound) ∙ z
 
         -- its list of single steps is the model's
         listed : roll_steps (run w steps) ≡ model.roll_steps R (yard_view (run w steps))
-        listed = roll_same setup (Keeps setup ro) (fits setup ro)
-            (next setup ro) (run w steps) (reached steps).sound (sent w steps, good steps)
+        listed = roll_same present sources dests (Keeps present sources dests ro) (fits present sources dests ro)
+            (next present sources dests ro) (run w steps) (reached steps).sound (sent w steps, good steps)
 
         counted : length (roll_steps (run w steps)) ≡ moving.roll_answer R (moving.moves R Y steps)
         counted = ap length listed
@@ -144,8 +142,8 @@ module _ (setup : Setup) (air : List ℕ) (small : EightBits setup)
         all_accepted : roll_refusal (run w steps) ≡ 0 → AllAccepted (run w steps) (roll_steps (run w steps))
         all_accepted z =
             let g = good steps in
-            list_accepted setup (Keeps setup ro) (fits setup ro)
-            (next setup ro) (run w steps) (reached steps).sound (sent w steps, g) (roll_steps (run w steps))
+            list_accepted present sources dests (Keeps present sources dests ro) (fits present sources dests ro)
+            (next present sources dests ro) (run w steps) (reached steps).sound (sent w steps, g) (roll_steps (run w steps))
             (rw listed (roll_accepted R ro (yard_view (run w steps)) g.yard_ok g.air_ok
             (moving.roll_left R (yard_view (run w steps)) ro (unrefused z))))
 
@@ -157,7 +155,7 @@ module _ (setup : Setup) (air : List ℕ) (small : EightBits setup)
         first_frame R (run w steps) o (places_view (run w steps).yard.first o.lane o.serial) g.yard_ok s
         (g.air_ok.first_frames o.lane o.serial s.from_one s.was_sent)
 
-    pub holds : Demand3 setup w
+    pub holds : Demand3 present sources dests w
     holds = record {
       logs = logs;
       list = λ steps. one_list w steps (good steps).sent_listed.listed_lane (good steps).sent_listed.listed_apart;
@@ -188,11 +186,11 @@ module _ (setup : Setup) (air : List ℕ) (small : EightBits setup)
     nothing_sent steps = never_sends w bad steps
 
     no_log : (steps : List Step) (lane : ℕ) → log_at (run w steps) lane ≡ []
-    no_log steps lane = ap (λ (x : World). log_at x lane) (stands steps) ∙ fresh_log setup air lane
+    no_log steps lane = ap (λ (x : World). log_at x lane) (stands steps) ∙ fresh_log present sources dests air lane
 
     -- no order was sent or taken, and no frame is on the air
     no_serial : (steps : List Step) (lane : ℕ) → (post_at (run w steps).yard lane).serial.0 ≡ 0
-    no_serial steps lane = ap (λ (x : World). (post_at x.yard lane).serial.0) (stands steps) ∙ fresh_serial setup lane
+    no_serial steps lane = ap (λ (x : World). (post_at x.yard lane).serial.0) (stands steps) ∙ fresh_serial present sources dests lane
 
     none_taken : orders_taken w ≡ 0
     none_taken = unfold fresh_yard orders_taken sum_below in refl
@@ -201,10 +199,10 @@ module _ (setup : Setup) (air : List ℕ) (small : EightBits setup)
     none_aired = unfold fresh_yard orders_taken beacons_of_all sum_below in refl
 
     none_sent_lem : (lane : ℕ) → beacons_at w.yard lane ≡ 0
-    none_sent_lem lane = ap (λ (f : ℕ → ℕ). f lane) (fresh_beacons setup)
+    none_sent_lem lane = ap (λ (f : ℕ → ℕ). f lane) (fresh_beacons present sources dests)
 
     -- nothing happens
-    idle : Demand3 setup w
+    idle : Demand3 present sources dests w
     idle = record {
       logs = λ steps more lane. rw (no_log steps lane) (in_order (sent w (steps ++ more)), refl);
       list = λ steps. one_list w steps (rw (nothing_sent steps) (λ o m. absurd m)) (rw (nothing_sent steps) tt);
@@ -225,20 +223,20 @@ module _ (setup : Setup) (air : List ℕ) (small : EightBits setup)
         only = rw (nothing_sent steps) (λ o m. absurd m);
         every = λ n a b. absurd (omega (arith, no_serial steps lane));
       };
-      records = λ steps lane l. rw (stands steps) (fresh_records setup small z lane l);
+      records = λ steps lane l. rw (stands steps) (fresh_records present sources dests small smallSources smallDests z lane l);
       firsts = λ steps. rw (nothing_sent steps) (λ o m. absurd m);
     }
 
 pub agreement : Agreement
-agreement setup air a z = go (same_or_not (length air) 65536)
+agreement present sources dests air a b c z = go (same_or_not (length air) 65536)
   where
-    go : (length air ≡ 65536) ⊎ (length air ≢ 65536) → Demand3 setup (fresh_world setup air)
-    go (inl whole) = holds setup air a z whole
-    go (inr bad) = idle setup air a z bad
+    go : (length air ≡ 65536) ⊎ (length air ≢ 65536) → Demand3 present sources dests (fresh_world present sources dests air)
+    go (inl whole) = holds present sources dests air a b c z whole
+    go (inr bad) = idle present sources dests air a b c z bad
 
 pub facts : Facts
-facts setup air a z = go (same_or_not (length air) 65536)
+facts present sources dests air a b c z = go (same_or_not (length air) 65536)
   where
-    go : (length air ≡ 65536) ⊎ (length air ≢ 65536) → YardFacts (fresh_world setup air)
-    go (inl whole) = facts_hold setup air a z whole
-    go (inr bad) = facts_idle setup air a z bad
+    go : (length air ≡ 65536) ⊎ (length air ≢ 65536) → YardFacts (fresh_world present sources dests air)
+    go (inl whole) = facts_hold present sources dests air a b c z whole
+    go (inr bad) = facts_idle present sources dests air a b c z bad

@@ -1,14 +1,13 @@
 -- The yard of document 01 read as the model's yard: arrays as functions, bytes as frames. A proof device; nobody has to believe it. Assumes nothing.
-use mathlib.Core.Bool.{Bool, true, cond, not, ◌&&◌}
+use mathlib.Core.Bool.{true, cond, not}
 use mathlib.Core.List.{List}
-use Prim.Native.Nat.{ℕ, zero, suc, ◌+◌}
-use lib.Dec.{ltb, eqb}
+use Prim.Native.Nat.{ℕ}
+use lib.Dec.{ltb}
 use lib.ListN.{get_or}
 use Rattle.frame.specs.declared.Frame as frames
 use Rattle.frame.specs.Layout.{entry_of}
 use Rattle.cells.specs.Sets.{has_lane}
 use Rattle.cells.specs.Tables.{stamp_under, order_place}
-use Rattle.setup.specs.declared.Setup.{Setup}
 use Rattle.post.specs.declared.Post as posts
 use Rattle.post.specs.Record.{last_of}
 use Rattle.steps.specs.Refusals.{is_order}
@@ -16,25 +15,11 @@ use Rattle.state.specs.Yards.{post_at, beacons_at}
 use Rattle.yard.specs.Singles.{frame_at}
 use Rattle.yard.specs.Worlds.{World}
 use Rattle.roll.specs.Logs.{orders_logged}
-use Rattle.model.proofs.Model.{Post, Frame, Roles, Yard, no_order_lem, newest_stamp}
+use Rattle.model.proofs.Model.{Post, Frame, Roles, Yard, no_order_lem}
 
--- how many of the lanes below n, other than the own one, have an entry
-unfoldable pub others_in : (ℕ → ℕ → ℕ) → ℕ → ℕ → ℕ
-others_in t own zero = 0
-others_in t own (suc i) = others_in t own i + cond (not (eqb i own) && not (eqb (newest_stamp (t i)) 0)) 1 0
-
--- the lanes whose entries a broadcast carries: the own first, then the others, rising, until e are placed
-unfoldable pub sends_up_to : ℕ → ℕ → (ℕ → ℕ → ℕ) → ℕ → Bool
-sends_up_to e own t i = ltb (cond (eqb i own) 0 (cond (not (eqb (newest_stamp (t own)) 0)) 1 0 + others_in t own i)) e
-
--- the roles by what line 1 says
-abbrev pub roles_of : Setup → Roles
-roles_of setup = record {
-  source = has_lane setup.sources;
-  dest = has_lane setup.dests;
-  present = has_lane setup.posts;
-  sends = sends_up_to setup.entries;
-}
+-- the roles by three sets of lanes
+abbrev pub roles_of : ℕ → ℕ → ℕ → Roles
+roles_of present sources dests = record { source = has_lane sources; dest = has_lane dests; present = has_lane present }
 
 -- the number kept at order (i, n)
 abbrev pub places_view : List ℕ → ℕ → ℕ → ℕ

@@ -7,7 +7,6 @@ use native.Mathlib.Omega.{arith}
 use lib.ListN.{length, get_or, set}
 use lib.Seq.{get_or-set_same, get_or-set_other}
 use Rattle.cells.specs.Sets.{has_lane}
-use Rattle.setup.specs.declared.Setup.{Setup}
 use Rattle.post.specs.declared.Post as posts
 use Rattle.deliver.specs.Delivery.{delivered}
 use Rattle.state.specs.Yards.{no_post}
@@ -31,17 +30,17 @@ posts_view l lane q e h = fun_ext (λ i. go i (same_or_not i lane))
     go i (inl s) = rw (s, upd_same) (ap post_view (get_or-set_same l lane q no_post (omega arith)))
     go i (inr n) = rw (upd_other (λ (j : ℕ). post_view (get_or l j no_post)) lane (post_view q) i n) (ap post_view (get_or-set_other l lane i q no_post n))
 
-module _ (setup : Setup) where
+module _ (present sources dests : ℕ) where
   abbrev R : model.Roles
-  R = roles_of setup
+  R = roles_of present sources dests
 
   -- a record of the yard delivers as the model's post does
-  pub delivers : (lane : ℕ) (q : posts.Post) → InYard setup lane q → KeptRise (post_view q)
+  pub delivers : (lane : ℕ) (q : posts.Post) → InYard present sources dests lane q → KeptRise (post_view q)
       → post_view (delivered q).post ≡ model.deliver R lane (post_view q)
   delivers lane q i c =
       view_delivered q i.shaped i.valid R
-      (λ j l. ap (λ (x : Setup). has_lane x.sources j) (sym i.its_setup))
-      (ap (λ (x : Setup). has_lane x.dests q.lane) (sym i.its_setup))
+      (λ j l. ap (λ (x : ℕ). has_lane x j) (sym i.its_sources))
+      (ap (λ (x : ℕ). has_lane x q.lane) (sym i.its_dests))
       c
       ∙ ap (λ (j : ℕ). model.deliver R j (post_view q)) i.its_lane
 

@@ -2,8 +2,6 @@
 use Rattle.std.specs.Prelude.{◌≡◌, ◌⊎◌, true, List, [], ◌∷◌, ◌++◌, ℕ, ◌+◌, ◌*◌, ◌-◌, ◌<◌, length}
 use Rattle.std.specs.Int.Count.{ones}
 use Rattle.cells.specs.Sets.{has_lane}
-use Rattle.setup.specs.declared.Setup.{Setup}
-use Rattle.setup.specs.Setups.{EightBits}
 use Rattle.state.specs.Yards.{fresh_yard, yard_refusal}
 use Rattle.yard.specs.Worlds.{World, world_of, Single, single, singles}
 use Rattle.roll.specs.declared.RollAnswer as calling
@@ -13,9 +11,9 @@ use Rattle.roll.specs.Logs.{log_at, in_order, Rising}
 use Rattle.roll.specs.Answers.{answer_number}
 use Rattle.laws.specs.Lists.{Mem, Begins}
 
--- a fresh yard of what line 1 says, and any air
-abbrev pub fresh_world : Setup → List ℕ → World
-fresh_world setup air = world_of (fresh_yard setup) air
+-- a fresh yard of three sets of lanes, and any air
+abbrev pub fresh_world : ℕ → ℕ → ℕ → List ℕ → World
+fresh_world present sources dests air = world_of (fresh_yard present sources dests) air
 
 -- ---- what holds after a list of steps
 
@@ -43,9 +41,9 @@ AllAccepted w [] = Unit {0}
 AllAccepted w (s ∷ l) = (answer_number (answer w (one s)) ≡ 0) × AllAccepted (single w s) l
 
 -- "If the steps end with a roll call that is not refused": it answered n
-pub record AfterRollCall (setup : Setup) (w : World) (steps : List Step) (n : ℕ) : Type 0 where
+pub record AfterRollCall (present sources dests : ℕ) (w : World) (steps : List Step) (n : ℕ) : Type 0 where
   -- "every destination's log is exactly all orders sent so far, by stamp and then lane, each once"
-  pub logs : (lane : ℕ) → has_lane setup.dests lane ≡ true → log_at (run w (steps ++ (roll ∷ []))) lane ≡ in_order (sent w (steps ++ (roll ∷ [])))
+  pub logs : (lane : ℕ) → has_lane dests lane ≡ true → log_at (run w (steps ++ (roll ∷ []))) lane ≡ in_order (sent w (steps ++ (roll ∷ [])))
   -- "It does what this list of single steps does, run one after another"
   pub did : run w (steps ++ (roll ∷ [])) ≡ singles (run w steps) (roll_steps (run w steps))
   -- "That call's answer is the number of single steps that it ran"
@@ -53,18 +51,18 @@ pub record AfterRollCall (setup : Setup) (w : World) (steps : List Step) (n : �
   -- and none of them was refused
   pub accepted : AllAccepted (run w steps) (roll_steps (run w steps))
   -- "and equals (N−1)×M + N×S for N posts, M orders sent so far and S sources"
-  pub formula : n ≡ (ones setup.posts - 1) * length (sent w steps) + ones setup.posts * ones setup.sources
+  pub formula : n ≡ (ones present - 1) * length (sent w steps) + ones present * ones sources
 
 -- ---- demand 3, of a fresh world w: the customer's sentences, in their order
 
-pub record Demand3 (setup : Setup) (w : World) : Type 0 where
+pub record Demand3 (present sources dests : ℕ) (w : World) : Type 0 where
   pub logs : LogsBegin w
   pub list : (steps : List Step) → OneList w steps
   pub agree : LogsAgree w
   pub rolls : (steps : List Step) (n : ℕ) → answer (run w steps) roll ≡ called (calling.TheVariants.Called n)
-      → AfterRollCall setup w steps n
+      → AfterRollCall present sources dests w steps n
 
--- for every fresh yard that is not refused, its sets being of eight bits, with every E from 1 to 8, and every air, of any bytes and any length
+-- for every fresh yard that is not refused, its sets being of eight bits, and every air, of any bytes and any length
 abbrev pub Agreement : Type 0
-Agreement = (setup : Setup) (air : List ℕ) → EightBits setup → yard_refusal setup ≡ 0
-    → Demand3 setup (fresh_world setup air)
+Agreement = (present sources dests : ℕ) (air : List ℕ) → present < 256 → sources < 256 → dests < 256 → yard_refusal present sources dests ≡ 0
+    → Demand3 present sources dests (fresh_world present sources dests air)

@@ -3,7 +3,6 @@
 use Rattle.std.specs.Prelude.{◌≡◌, true, cond, List, [], ◌∷◌, ◌++◌, map, ℕ, ◌+◌, ltb, eqb, length}
 use Rattle.cells.specs.Sets.{has_lane}
 use Rattle.steps.specs.declared.BeaconAnswer as beaconing
-use Rattle.setup.specs.declared.Setup.{Setup}
 use Rattle.yard.specs.Worlds.{World, Single, order, hear, beacon}
 use Rattle.roll.specs.Runs.{Answer, beaconed, one, answer, step, run}
 use Rattle.agreement.specs.Demand3.{fresh_world}
@@ -30,20 +29,20 @@ beacon_answers q w (hear lane k ∷ l) = beacon_answers q (step w (one (hear lan
 beacon_answers q w (beacon lane ∷ l) =
     cond (eqb lane q) (answer w (one (beacon lane)) ∷ []) [] ++ beacon_answers q (step w (one (beacon lane))) l
 
--- ---- of a fresh yard of what line 1 says, and any air, of any bytes and any length
+-- ---- of a fresh yard of three sets of lanes, and any air, of any bytes and any length
 
-pub record Granted (setup : Setup) (air : List ℕ) : Type 0 where
+pub record Granted (present sources dests : ℕ) (air : List ℕ) : Type 0 where
   -- after two lists with equally many beacon steps of lane q a further one gets the same answer
   pub further : (q : ℕ) (l m : List Single) → beacon_steps q l ≡ beacon_steps q m
-      → answer (run (fresh_world setup air) (map one l)) (one (beacon q))
-      ≡ answer (run (fresh_world setup air) (map one m)) (one (beacon q))
+      → answer (run (fresh_world present sources dests air) (map one l)) (one (beacon q))
+      ≡ answer (run (fresh_world present sources dests air) (map one m)) (one (beacon q))
   -- "Beacons of one post no longer alter which beacons another is granted": left out or added anywhere, they change none of its answers
   pub others : (q : ℕ) (l m : List Single) → without_others q l ≡ without_others q m
-      → beacon_answers q (fresh_world setup air) l ≡ beacon_answers q (fresh_world setup air) m
+      → beacon_answers q (fresh_world present sources dests air) l ≡ beacon_answers q (fresh_world present sources dests air) m
   -- "Each post gets 128 of its own": whatever else is done, its first 128 are sent, and each further one is refused by 27
-  pub own : (q : ℕ) (l : List Single) → has_lane setup.posts q ≡ true → length air ≡ 65536
-      → answer (run (fresh_world setup air) (map one l)) (one (beacon q))
+  pub own : (q : ℕ) (l : List Single) → has_lane present q ≡ true → length air ≡ 65536
+      → answer (run (fresh_world present sources dests air) (map one l)) (one (beacon q))
       ≡ beaconed (cond (ltb (beacon_steps q l) 128) beaconing.TheVariants.Sent (beaconing.TheVariants.Refused 27))
 
 abbrev pub BeaconsGranted : Type 0
-BeaconsGranted = (setup : Setup) (air : List ℕ) → Granted setup air
+BeaconsGranted = (present sources dests : ℕ) (air : List ℕ) → Granted present sources dests air

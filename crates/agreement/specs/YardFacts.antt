@@ -1,8 +1,6 @@
 -- What else holds of every yard; `facts` in proofs/Theorem.antt proves it. Words in quotes are document 01's. Assumes nothing.
 use Rattle.std.specs.Prelude.{◌≡◌, false, List, ℕ, ◌+◌, ◌<◌, ◌≤◌, get_or}
 use Rattle.cells.specs.Tables.{order_place}
-use Rattle.setup.specs.declared.Setup.{Setup}
-use Rattle.setup.specs.Setups.{EightBits}
 use Rattle.judge.specs.Judgement.{bad_record}
 use Rattle.state.specs.Yards.{post_at, beacons_at, yard_refusal}
 use Rattle.yard.specs.Singles.{frame_at}
@@ -55,5 +53,5 @@ pub record YardFacts (w : World) : Type 0 where
 
 -- for every fresh yard that is not refused, its sets being of eight bits, and every air, of any bytes and any length
 abbrev pub Facts : Type 0
-Facts = (setup : Setup) (air : List ℕ) → EightBits setup → yard_refusal setup ≡ 0
-    → YardFacts (fresh_world setup air)
+Facts = (present sources dests : ℕ) (air : List ℕ) → present < 256 → sources < 256 → dests < 256 → yard_refusal present sources dests ≡ 0
+    → YardFacts (fresh_world present sources dests air)

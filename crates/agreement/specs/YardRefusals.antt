@@ -15,8 +15,8 @@ order_yard_refusal w lane word =
     cond (ltb 7 lane) 4
     (cond (ltb 65535 word) 5
     (cond (bad_air w.air) 13
-    (cond (not (has_lane w.yard.setup.posts lane)) 21
-    (cond (not (has_lane w.yard.setup.sources lane)) 22
+    (cond (not (has_lane w.yard.present lane)) 21
+    (cond (not (has_lane w.yard.sources lane)) 22
     (cond (leb 16 (post_at w.yard lane).serial.0) 23
     0)))))
 
@@ -25,7 +25,7 @@ unfoldable pub hear_yard_refusal : World → ℕ → ℕ → ℕ
 hear_yard_refusal w lane k =
     cond (ltb 7 lane) 4
     (cond (bad_air w.air) 13
-    (cond (not (has_lane w.yard.setup.posts lane)) 21
+    (cond (not (has_lane w.yard.present lane)) 21
     (cond (leb w.yard.frames k) 25
     (cond (eqb (frame_at w.air k).sender lane) 26
     0))))
@@ -35,7 +35,7 @@ unfoldable pub beacon_yard_refusal : World → ℕ → ℕ
 beacon_yard_refusal w lane =
     cond (ltb 7 lane) 4
     (cond (bad_air w.air) 13
-    (cond (not (has_lane w.yard.setup.posts lane)) 21
+    (cond (not (has_lane w.yard.present lane)) 21
     (cond (spent (beacons_at w.yard lane)) 27
     0)))
 

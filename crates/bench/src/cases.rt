@@ -42,33 +42,6 @@ pub(crate) fn number_at(s: &[u8], at: usize, text: &[u8], none: u32) -> Scan {
     scan::read_number(s, scan::read_text(s, text, begun))
 }
 
-// No number.
-pub(crate) const NONE: u32 = 65536;
-
-// The numbers of a case: of its input, which may have none; and after its verb, where the first and the third are 0 and the
-// second is none if they are not said.
-#[derive(Drop)]
-pub(crate) struct Numbers {
-    pub input: u32,
-    pub first: u32,
-    pub second: u32,
-    pub third: u32,
-}
-
-// The numbers of the input and the verb that stand at these places.
-pub(crate) fn numbers_of(file: &[u8], input_at: usize, verb: usize) -> Numbers {
-    let input = number_at(file, after(file, input_at, b't'), b" ", NONE);
-    let first = number_at(file, after(file, verb, b' '), b"", 0);
-    let second = number_at(file, first.at, b" ", NONE);
-    let third = number_at(file, second.at, b" ", 0);
-    Numbers {
-        input: input.latest,
-        first: first.latest,
-        second: second.latest,
-        third: third.latest,
-    }
-}
-
 // The text of the lines under the heading that stands at a place: how many bytes it has.
 pub(crate) fn put_block(file: &[u8], heading: usize, into: &mut [u8]) -> usize {
     let mut at = after(file, heading, b'\n');

@@ -1,4 +1,4 @@
-// The yard bench of document 01 and the cases of document 02, K1 to K3, run on the compiled code. The cases stand in the file
+// The yard bench of document 01 and the cases of document 02, K1, run on the compiled code. The cases stand in the file
 // `stdin` of this crate, which says how they are written: one for each case of the joint table (crate `script_table`). Each
 // is run, and what came is compared with what the case expects.
 mod answers;
@@ -8,7 +8,7 @@ mod logs;
 mod posts;
 mod yards;
 
-use cases::{Numbers, after, numbers_of, part};
+use cases::{after, number_at, part};
 use libc::{STDIN_FILENO, STDOUT_FILENO};
 use std::num::wrapping_add_u64;
 
@@ -55,7 +55,7 @@ fn run_file(file: &[u8]) -> Counts {
     counts
 }
 
-// `input NUMBER` and `case NAME VERB NUMBER ..` stand at these places: 1 where what the verb gives is what is expected, else 0.
+// `input NUMBER` and `case NAME VERB NUMBER` stand at these places: 1 where what the verb gives is what is expected, else 0.
 fn run_case(file: &[u8], input_at: usize, at: usize) -> u64 {
     let mut input = [0u8; 49152];
     let mut expected = [0u8; 8192];
@@ -64,23 +64,30 @@ fn run_case(file: &[u8], input_at: usize, at: usize) -> u64 {
     let given = part(&input, 0, n);
     let n = cases::put_block(file, at, &mut expected);
     let wanted = part(&expected, 0, n);
+    let set = number_at(file, after(file, input_at, b't'), b" ", 65536);
     let name = after(file, at, b' ');
     let verb = after(file, name, b' ');
-    let numbers = numbers_of(file, input_at, verb);
-    let n = run_verb(scan::byte_at(file, verb), numbers, given, wanted, &mut came);
+    let number = number_at(file, after(file, verb, b' '), b"", 0);
+    let n = run_verb(
+        scan::byte_at(file, verb),
+        number.latest as usize,
+        set.latest as usize,
+        given,
+        wanted,
+        &mut came,
+    );
     tell(part(file, name, verb), wanted, part(&came, 0, n))
 }
 
 // What a verb gives; the verb is known by its first letter.
 fn run_verb<'a>(
     letter: u8,
-    numbers: Numbers,
+    number: usize,
+    set: usize,
     input: &'a [u8],
     expected: &'a [u8],
     came: &mut [u8],
 ) -> usize {
-    let number = numbers.first as usize;
-    let set = numbers.input as usize;
     match letter {
         b'p' => yards::prints(input, set, &mut [0u8; yards::AIR], came),
         b'a' | b'l' => yards::answers(input, set, letter == b'a', came),
@@ -91,8 +98,7 @@ fn run_verb<'a>(
         b'w' => frames::writes(input, number, &mut [255u8; 64], came),
         b'c' => logs::composes(input, number, &mut [255u8; 4096], came),
         b'i' => logs::imports(input, number, &mut [65535u16; logs::MOST], came),
-        b's' => posts::play(numbers, input, came),
-        b'm' => posts::makes(numbers, input, came),
+        b's' => posts::play(number, set, input, came),
         _ => 0,
     }
 }

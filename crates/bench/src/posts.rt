@@ -1,55 +1,41 @@
 // One post of a script run singly: its own steps, with the frames that the whole script leaves on the air. Between its steps
 // the post is kept in a row.
-use crate::answers::{put_line, put_told};
-use crate::cases::{NONE, Numbers, after, part};
+use crate::answers::put_told;
+use crate::cases::{after, part};
 use frame::{Frame, Stamp};
-use lines::{Asked, Line};
+use lines::Line;
 use post::Post;
 use scan::byte_at;
-use setup::Setup;
 use text::put_text;
 
-const LANES: u32 = Frame::LANES as u32;
-
 // What each of the post's steps answers, and its buffer; then the post's line of the printout.
-pub(crate) fn play(numbers: Numbers, script: &[u8], came: &mut [u8]) -> usize {
+pub(crate) fn play(lane: usize, clock: usize, script: &[u8], came: &mut [u8]) -> usize {
     let mut left = [0u8; crate::yards::LEFT];
     let mut row = [0u16; row::LENGTH];
     crate::yards::leave(script, air::LENGTH, &mut left);
-    let p = begin(script, numbers);
+    let p = begin(script, (lane % Frame::LANES) as u8, (clock % 65536) as u16);
     post_row::load(&mut row, p);
     let n = play_lines(script, part(&left, 0, air::LENGTH), &mut row, came);
     printout::put_post(came, n, p.lane as u16, &row)
 }
 
-// The number that making the post singly is refused by, or 0.
-pub(crate) fn makes(numbers: Numbers, script: &[u8], came: &mut [u8]) -> usize {
-    let lane = (numbers.first % LANES) as u8;
-    let made = single::fresh(lane, setup_of(script, numbers.second));
-    put_line(came, 0, b"", made.refusal as u16)
-}
-
-// The fresh post of a lane, with this clock, E and spare byte.
-fn begin(script: &[u8], numbers: Numbers) -> Post {
-    let lane = (numbers.first % LANES) as u8;
-    let made = single::fresh(lane, setup_of(script, NONE));
-    let mut p = made.post;
-    let clock = Stamp((numbers.input % 65536) as u16);
-    let setup = setup_of(script, numbers.second);
-    p.clock = clock;
-    p.setup = setup;
-    p.spare = (numbers.third % 256) as u8;
-    p
-}
-
-// What line 1 of a script says, with another E unless there is none.
-fn setup_of(script: &[u8], entries: u32) -> Setup {
-    let first = reader::read_first(script);
-    let mut setup = first.setup;
-    if entries != NONE {
-        setup.entries = (entries % 256) as u8;
+// The fresh post of a lane, with this clock.
+fn begin(script: &[u8], lane: u8, clock: u16) -> Post {
+    let l = reader::read_line(script, 0);
+    let mut p = Post::new(lane, 0, 0, 0);
+    if let Line::Yard {
+        posts,
+        sources,
+        dests,
+        next: _,
+    } = l
+    {
+        let made = single::fresh(lane, posts, sources, dests);
+        p = made.post;
     }
-    setup
+    let stamp = Stamp(clock);
+    p.clock = stamp;
+    p
 }
 
 fn play_lines<'a>(script: &'a [u8], air: &'a [u8], row: &mut [u16], came: &mut [u8]) -> usize {
@@ -83,21 +69,27 @@ fn play_line<'a>(
 // The post after a step: the answer told as one number.
 fn step(row: &mut [u16], l: Line, air: &[u8], buffer: &mut [u8]) -> u64 {
     let p = post_row::store(row);
-    let asked = l.step;
-    match asked {
-        Asked::Order { lane: _, word } => {
+    match l {
+        Line::Order {
+            lane: _,
+            word,
+            next: _,
+        } => {
             let done = single::order(p, word, buffer);
             let answer = done.answer;
             post_row::load(row, done.post);
             told::order_told(answer)
         }
-        Asked::Hear { lane: _, frame } => {
+        Line::Hear {
+            lane: _,
+            frame,
+            next: _,
+        } => {
             let done = single::hear(p, air::stretch(air, air::FRAMES, frame as usize), buffer);
             let answer = done.answer;
             post_row::load(row, done.post);
             told::hear_told(answer)
         }
-        Asked::Beacon { lane: _ } => told::beacon_told(single::beacon(p, buffer)),
         _ => 0,
     }
 }

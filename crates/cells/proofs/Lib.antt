@@ -1,4 +1,3 @@
 mod Laws
 pub mod Places
 pub mod Copies
-pub mod Lanes

@@ -2,7 +2,7 @@
 -- Reading outside an array gives 0 (`get_or`), writing outside changes nothing (`set`).
 use Rattle.std.specs.Prelude.{ℕ, ◌+◌, ◌-◌, ◌*◌, cond, ◌&&◌, List, ltb, leb, get_or, set}
 
--- "a newest_stamp_lem table of 8 lanes by 17 serials (0 to 16)": entry (lane, serial) of it
+-- "a newest-stamp table of 8 lanes by 17 serials (0 to 16)": entry (lane, serial) of it
 -- Another serial has no entry: 136 is past the table's end.
 unfoldable pub entry_place : ℕ → ℕ → ℕ
 entry_place lane serial = cond (leb serial 16) (lane * 17 + serial) 136

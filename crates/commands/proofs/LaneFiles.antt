@@ -12,17 +12,18 @@ use Rattle.cells.specs.Sets.{has_lane}
 use Rattle.post.specs.declared.Post.{Post}
 use Rattle.row.specs.Rows.{post_in}
 use Rattle.lines.specs.declared.Judged.{Judged}
-use Rattle.lines.specs.Lines.{first_line, judged}
+use Rattle.lines.specs.declared.Line.TheVariants.{Yard}
+use Rattle.lines.specs.Lines.{judged}
 use Rattle.state.specs.Yards as yards
 use Rattle.state.specs.States.{whole, held_in, row_of, yard_in}
 use Rattle.state.proofs.StateLaws.{at_yard}
 use Rattle.roll.specs.Logs.{orders_logged}
 use Rattle.meaning.specs.Script.{script_world}
 use Rattle.fits.proofs.Printed.{printed}
-use Rattle.written.proofs.WholeScripts.{first_right}
+use Rattle.fits.proofs.LineLengths.{accepted}
 use Rattle.script.specs.State.{state_held}
 use Rattle.script.specs.OnState.{script_knowns}
-use Rattle.script.proofs.ScriptWays.{yard_of}
+use Rattle.script.proofs.ScriptWays.{yard_of_lem}
 use Rattle.csv.specs.Log.{item_numbers, log_in}
 use Rattle.csv.specs.Text.{log_text}
 use Rattle.csv.specs.Writing.{handed_text, csv_write_refusal, csv_write_answer, buffer_after}
@@ -38,34 +39,34 @@ use Rattle.commands.specs.Making.{lane_numbers, lane_made, lane_buffer}
 
 -- ---- the state that a script leaves
 
-pub state_yard : (s air state state' : List ℕ) → length state ≡ 4501 → length state' ≡ length state → (judged s).number ≡ 0 → held_in state' ≡ state_held s air state
+pub state_yard : (s air state state' : List ℕ) → length state ≡ 4483 → length state' ≡ length state → (judged s).number ≡ 0 → held_in state' ≡ state_held s air state
     → yard_in state' ≡ (script_world s air).yard
 unfolding state_held
 state_yard s air state state' h k z e =
-    let q : held_in state' ≡ whole (script_world s air).yard (script_knowns s air) = e ∙ rw (eq-eqb (length state) 4501 h, z) in
-    yard_of state' (script_world s air).yard (script_knowns s air) (k ∙ h) q
+    let q : held_in state' ≡ whole (script_world s air).yard (script_knowns s air) = e ∙ rw (eq-eqb (length state) 4483 h, z) in
+    yard_of_lem state' (script_world s air).yard (script_knowns s air) (k ∙ h) q
 
 -- ---- a lane of a state
 
-posts_of : (state : List ℕ) → (yard_in state).setup.posts ≡ get_or state 0 0
+present_of : (state : List ℕ) → (yard_in state).present ≡ get_or state 0 0
 unfolding yard_in
-posts_of state = refl
+present_of state = refl
 
-pub lane_none : (state buffer : List ℕ) (lane posts : ℕ) (b : Bool) → posts ≡ get_or state 0 0 → b ≡ has_lane posts lane → not b ≡ true
+pub lane_none : (state buffer : List ℕ) (lane present : ℕ) (b : Bool) → present ≡ get_or state 0 0 → b ≡ has_lane present lane → not b ≡ true
     → (not_made 0 21 ≡ lane_made (yard_in state) lane buffer) × (buffer ≡ lane_buffer (yard_in state) lane buffer)
 unfolding lane_made lane_buffer
-lane_none state buffer lane posts b e f h =
-    let q : has_lane (yard_in state).setup.posts lane ≡ false = ap (λ (p : ℕ). has_lane p lane) (posts_of state ∙ sym e) ∙ sym f ∙ not_off b h in
+lane_none state buffer lane present b e f h =
+    let q : has_lane (yard_in state).present lane ≡ false = ap (λ (p : ℕ). has_lane p lane) (present_of state ∙ sym e) ∙ sym f ∙ not_off b h in
     rw q (refl, refl)
 
-pub lane_made_lem : (state row zeros numbers buffer after : List ℕ) (lane posts n a : ℕ) (b : Bool) → lane < 8 → length zeros ≡ 384 → n ≤ 384
-    → posts ≡ get_or state 0 0 → b ≡ has_lane posts lane → not b ≡ false → row ≡ row_of state lane
+pub lane_made_lem : (state row zeros numbers buffer after : List ℕ) (lane present n a : ℕ) (b : Bool) → lane < 8 → length zeros ≡ 384 → n ≤ 384
+    → present ≡ get_or state 0 0 → b ≡ has_lane present lane → not b ≡ false → row ≡ row_of state lane
     → (n ≡ length (item_numbers (map item_of (orders_logged (post_in row))))) × (numbers ≡ sets zeros 0 (item_numbers (map item_of (orders_logged (post_in row)))))
     → (a ≡ csv_write_answer (take n numbers) buffer) × (after ≡ buffer_after (take n numbers) buffer)
     → (◌≡◌ {A = CsvMade} (record { number = a % 256; line = 0; length = a / 256 }) (lane_made (yard_in state) lane buffer)) × (after ≡ lane_buffer (yard_in state) lane buffer)
 unfolding lane_made lane_buffer
-lane_made_lem state row zeros numbers buffer after lane posts n a b l z m e f h r d w =
-    let q : has_lane (yard_in state).setup.posts lane ≡ true = ap (λ (p : ℕ). has_lane p lane) (posts_of state ∙ sym e) ∙ sym f ∙ not-false b h in
+lane_made_lem state row zeros numbers buffer after lane present n a b l z m e f h r d w =
+    let q : has_lane (yard_in state).present lane ≡ true = ap (λ (p : ℕ). has_lane p lane) (present_of state ∙ sym e) ∙ sym f ∙ not-false b h in
     let t = item_numbers (map item_of (orders_logged (post_in row))) in
     let p : take n numbers ≡ t = ap (take n) d.1 ∙ front t zeros n (sym d.0) (omega arith) in
     let i : t ≡ lane_numbers (yard_in state) lane = ap (λ (x : List ℕ). item_numbers (map item_of (orders_logged (post_in x)))) r ∙ ap (λ (x : Post). item_numbers (map item_of (orders_logged x))) (sym (at_yard state lane l)) in
@@ -81,9 +82,9 @@ text_same w lane = ap log_text (ap log_in (numbers_records (desk_log w lane)) �
 never_refused : (s buffer : List ℕ) (lane : ℕ) → (judged s).number ≡ 0 → length buffer ≡ 2048 → csv_write_refusal (lane_numbers (command_world s).yard lane) buffer ≡ 0
 never_refused s buffer lane z h =
     let p = printed s own_air z in
-    let r = (first_right s z).0 in
-    let d = desk (first_line s).setup own_air r.sets p.1 in
-    rw p.2 (d.written _ lane buffer h)
+    let r = (accepted s 0 (Yard p.0 p.1 p.2 p.3) p.4 refl).0 in
+    let d = desk p.0 p.1 p.2 own_air r.2 r.3 r.4 p.5 in
+    rw p.6 (d.written _ lane buffer h)
 
 -- so the answer is its length
 made_whole : (s buffer : List ℕ) (lane : ℕ) → (judged s).number ≡ 0 → length buffer ≡ 2048
@@ -126,7 +127,7 @@ unfolding csv_made csv_buffer lane_made lane_buffer
 lane_is s buffer lane z l h =
     let w = made_whole s buffer lane z h in
     rw (z, le-ltb 7 lane l, eq-eqb (length buffer) 2048 h, w.0, w.1)
-    (both_ways (has_lane (command_world s).yard.setup.posts lane) (length (lane_file s lane)) (lane_file s lane ++ drop (length (lane_file s lane)) buffer) buffer)
+    (both_ways (has_lane (command_world s).yard.present lane) (length (lane_file s lane)) (lane_file s lane ++ drop (length (lane_file s lane)) buffer) buffer)
 
 pub made_lane : (s buffer after : List ℕ) (lane : ℕ) (y : yards.Yard) (r : CsvMade) (v : Judged) → v ≡ judged s → v.number ≡ 0 → lane ≤ 7 → length buffer ≡ 2048
     → y ≡ (command_world s).yard → (r ≡ lane_made y lane buffer) × (after ≡ lane_buffer y lane buffer) → Made s lane buffer r after

@@ -55,10 +55,10 @@ numbers_more l numbers after p k place h e ep f =
 -- ---- all of them
 
 -- a whole row has 128 places in its log
-pub whole_log : (row : List ℕ) → length row ≡ 545 → length (post_in row).log ≡ 128
+pub whole_log : (row : List ℕ) → length row ≡ 543 → length (post_in row).log ≡ 128
 whole_log row h = sym (cells_some row 128 (omega arith) (omega arith))
 
-pub numbers_done : (row : List ℕ) (k n : ℕ) → length row ≡ 545 → n ≡ (post_in row).logged → k ≤ n → k ≤ 128 → (ltb k n && ltb k 128) ≡ false
+pub numbers_done : (row : List ℕ) (k n : ℕ) → length row ≡ 543 → n ≡ (post_in row).logged → k ≤ n → k ≤ 128 → (ltb k n && ltb k 128) ≡ false
     → (3 * k ≡ length (item_numbers (map item_of (orders_logged (post_in row))))) × (first_numbers (post_in row) k ≡ item_numbers (map item_of (orders_logged (post_in row))))
 numbers_done row k n h e l m t =
     let w = whole_log row h in
@@ -68,7 +68,7 @@ numbers_done row k n h e l m t =
     (sym (first_count (post_in row) k (omega arith)) ∙ ap (λ (r : List ℕ). length r) q, q)
 
 -- they are at most 384
-pub few_numbers : (row : List ℕ) → length row ≡ 545 → length (item_numbers (map item_of (orders_logged (post_in row)))) ≤ 384
+pub few_numbers : (row : List ℕ) → length row ≡ 543 → length (item_numbers (map item_of (orders_logged (post_in row)))) ≤ 384
 few_numbers row h =
     omega (
       arith,

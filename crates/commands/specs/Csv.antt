@@ -35,7 +35,7 @@ csv_made s lane buffer =
     cond (eqb (judged s).number 0)
     (cond (ltb 7 lane) (not_made 0 4)
     (cond (eqb (length buffer) 2048)
-    (cond (has_lane (command_world s).yard.setup.posts lane) (record { number = 0; line = 0; length = length (lane_file s lane) }) (not_made 0 21))
+    (cond (has_lane (command_world s).yard.present lane) (record { number = 0; line = 0; length = length (lane_file s lane) }) (not_made 0 21))
     (not_made 0 6)))
     (not_made (judged s).line (judged s).number)
 

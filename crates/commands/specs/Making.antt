@@ -14,9 +14,9 @@ lane_numbers y lane = item_numbers (map item_of (orders_logged (post_at y lane))
 
 unfoldable pub lane_made : Yard → ℕ → List ℕ → CsvMade
 lane_made y lane buffer =
-    cond (has_lane y.setup.posts lane)
+    cond (has_lane y.present lane)
     (record { number = csv_write_answer (lane_numbers y lane) buffer % 256; line = 0; length = csv_write_answer (lane_numbers y lane) buffer / 256 })
     (not_made 0 21)
 
 unfoldable pub lane_buffer : Yard → ℕ → List ℕ → List ℕ
-lane_buffer y lane buffer = cond (has_lane y.setup.posts lane) (buffer_after (lane_numbers y lane) buffer) buffer
+lane_buffer y lane buffer = cond (has_lane y.present lane) (buffer_after (lane_numbers y lane) buffer) buffer

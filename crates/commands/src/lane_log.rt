@@ -16,12 +16,12 @@ const ORDERS: u16 = Serial::LAST as u16;
 
 // The file of the log of a lane of a state, or 21.
 pub(crate) fn put_lane(state: &[u16], lane: usize, buffer: &mut [u8]) -> CsvMade
-    requires { (length state.now ≡ 4501) × (lane < 8) }
+    requires { (length state.now ≡ 4483) × (lane < 8) }
     ensures value { result ≡ lane_made (yard_in state.now) lane buffer.old }
     ensures bytes { buffer.new ≡ lane_buffer (yard_in state.now) lane buffer.old }
 {
-    let posts = row::get(state, state::POSTS);
-    if !cells::has(posts, lane as u16) {
+    let present = row::get(state, state::PRESENT);
+    if !cells::has(present, lane as u16) {
         return CsvMade {
             number: 21,
             line: 0,
@@ -42,7 +42,7 @@ pub(crate) fn put_lane(state: &[u16], lane: usize, buffer: &mut [u8]) -> CsvMade
 
 // The numbers of a row's log, three an order: how many numbers there are.
 fn log_numbers(row: &[u16], numbers: &mut [u16]) -> usize
-    requires* { do ⌜ (length row.now ≡ 545) × ((← ⟦numbers.len()⟧) ≡ 384) ⌝ }
+    requires* { do ⌜ (length row.now ≡ 543) × ((← ⟦numbers.len()⟧) ≡ 384) ⌝ }
     ensures value { result ≡ length (item_numbers (map item_of (orders_logged (post_in row.now)))) }
     ensures numbers { numbers.new ≡ sets numbers.old 0 (item_numbers (map item_of (orders_logged (post_in row.now)))) }
 {

@@ -53,7 +53,7 @@ fn not_made(line: u16, number: u8) -> CsvMade
 
 // The yard that a script leaves in the state, run on an air of its own.
 fn run(script: &[u8], state: &mut [u16])
-    requires* { do ⌜ ((judged script.now).number ≡ 0) × ((← ⟦state.len()⟧) ≡ 4501) ⌝ }
+    requires* { do ⌜ ((judged script.now).number ≡ 0) × ((← ⟦state.len()⟧) ≡ 4483) ⌝ }
     ensures { yard_in state.new ≡ (command_world script.now).yard }
 {
     let mut air = [0u8; AIR];

@@ -150,7 +150,7 @@ module _ (known : List ℕ) (p : Post) where
   not_ready true false agreed passed h = h
 
   abbrev least : Least
-  least = least_below p.setup.sources p.last p.table 8
+  least = least_below p.sources p.last p.table 8
 
   ready_there : (place : ℕ) → place < 128 → any_below (ready_in known p.last p.stamps least) 8 ≡ false
       → (is_taken p place && up_to least (stamp_at p place) && not (ltb (place % 16) (get_or known (place / 16) 0))) ≡ false

@@ -19,7 +19,7 @@ use Rattle.deliver.proofs.Gathering.{gathered_of_all, sorts, appended_is}
 use Rattle.deliver.proofs.Waiting.{none_waits, none_ready}
 
 -- what the gathered ones leave is what the definition says
-pub log_is : (known : List ℕ) (p : Post) → log_by known p.last p.stamps (least_below p.setup.sources p.last p.table 8) p.log p.logged ≡ due_log_from known p
+pub log_is : (known : List ℕ) (p : Post) → log_by known p.last p.stamps (least_below p.sources p.last p.table 8) p.log p.logged ≡ due_log_from known p
 unfolding log_by due_log_from due_places_from
 log_is known p =
     let s = sorts known p in
@@ -50,12 +50,12 @@ abbrev pub none_joined : Post → NewLog
 none_joined p = record { log = p.log; logged = min p.logged 128; count = 0 }
 
 -- the ways through `join`
-pub join_ready : (known : List ℕ) (p : Post) (least : Least) (new : NewLog) → least ≡ least_below p.setup.sources p.last p.table 8
+pub join_ready : (known : List ℕ) (p : Post) (least : Least) (new : NewLog) → least ≡ least_below p.sources p.last p.table 8
     → new ≡ log_by known p.last p.stamps least p.log p.logged
     → new ≡ due_log_from known p
 join_ready known p least new el e = rw (← log_is known p, ← el) e
 
-pub join_unready : (known : List ℕ) (p : Post) (least : Least) (b : Bool) → least ≡ least_below p.setup.sources p.last p.table 8
+pub join_unready : (known : List ℕ) (p : Post) (least : Least) (b : Bool) → least ≡ least_below p.sources p.last p.table 8
     → b ≡ any_below (ready_in known p.last p.stamps least) 8 → b ≡ false → none_joined p ≡ due_log_from known p
 join_unready known p least b el e f = none_ready known p (rw el at (sym e ∙ f))
 

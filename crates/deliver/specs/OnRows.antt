@@ -11,7 +11,7 @@ use Rattle.deliver.specs.Loops.{log_by}
 -- the delivery of a row's post, by what the row knows; a row that is cut short stays as it is
 unfoldable pub delivered_row : List ℕ → KnownDelivery
 delivered_row row =
-    cond (leb 545 (length row)) (delivered_from (known_in row) (post_in row))
+    cond (leb 543 (length row)) (delivered_from (known_in row) (post_in row))
     (record { post = post_in row; known = known_in row; count = 0 })
 
 -- ---- for contracts of private functions

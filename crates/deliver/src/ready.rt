@@ -30,7 +30,7 @@ pub(crate) const SERIALS: u16 = Serial::LAST as u16;
 
 // Whether each lane's last order taken is the last one known to be logged: then none waits.
 pub(crate) fn none_waits(row: &[u16]) -> bool
-    requires { 545 ≤ length row.now }
+    requires { 543 ≤ length row.now }
     ensures { result ≡ all_below (same_at (known_in row.now) (post_in row.now).last) 8 }
 {
     let mut same = true;
@@ -42,8 +42,8 @@ pub(crate) fn none_waits(row: &[u16]) -> bool
 
 // The stamp up to which every source has been heard: the least of their entries at the last serial taken.
 pub(crate) fn least_of(row: &[u16]) -> Least
-    requires { 545 ≤ length row.now }
-    ensures { result ≡ least_below (post_in row.now).setup.sources (post_in row.now).last (post_in row.now).table 8 }
+    requires { 543 ≤ length row.now }
+    ensures { result ≡ least_below (post_in row.now).sources (post_in row.now).last (post_in row.now).table 8 }
 {
     let numbers = row::read_numbers(row);
     let mut least = Least {
@@ -59,7 +59,7 @@ pub(crate) fn least_of(row: &[u16]) -> Least
 
 // The stamp at (lane, serial) of the table; a serial over 16 has no entry.
 fn heard_under(row: &[u16], lane: u16, serial: SerialCell) -> Stamp
-    requires { (545 ≤ length row.now) × (lane < 8) }
+    requires { (543 ≤ length row.now) × (lane < 8) }
     ensures { result.0 ≡ stamp_under (post_in row.now).table lane serial.0 }
 {
     if serial.0 <= SERIALS {
@@ -91,7 +91,7 @@ fn lower(least: Least, source: bool, heard: Stamp) -> Least
 
 // Whether any order that waits has a stamp not above the least.
 pub(crate) fn any_ready(row: &[u16], least: Least) -> bool
-    requires { 545 ≤ length row.now }
+    requires { 543 ≤ length row.now }
     ensures { result ≡ any_below (ready_in (known_in row.now) (post_in row.now).last (post_in row.now).stamps least) 8 }
 {
     let mut ready = false;
@@ -102,7 +102,7 @@ pub(crate) fn any_ready(row: &[u16], least: Least) -> bool
 }
 
 fn ready_in(lane: u16, row: &[u16], least: Least) -> bool
-    requires { (545 ≤ length row.now) × (lane < 8) }
+    requires { (543 ≤ length row.now) × (lane < 8) }
     ensures { result ≡ ready_in (known_in row.now) (post_in row.now).last (post_in row.now).stamps least lane }
 {
     let from = known_at(row, lane);
@@ -124,7 +124,7 @@ pub(crate) fn up_to(least: Least, stamp: Stamp) -> bool
 
 // How many orders of a lane are taken.
 pub(crate) fn taken_from(row: &[u16], lane: u16) -> u16
-    requires { (545 ≤ length row.now) × (lane < 8) }
+    requires { (543 ≤ length row.now) × (lane < 8) }
     ensures { result ≡ min (get_or (post_in row.now).last lane 0) 16 }
 {
     let last = last_of(row, lane);
@@ -132,21 +132,21 @@ pub(crate) fn taken_from(row: &[u16], lane: u16) -> u16
 }
 
 fn last_of(row: &[u16], lane: u16) -> SerialCell
-    requires { (545 ≤ length row.now) × (lane < 8) }
+    requires { (543 ≤ length row.now) × (lane < 8) }
     ensures { result.0 ≡ last_of (post_in row.now) lane }
 {
     SerialCell(row[LAST + (lane as usize)])
 }
 
 pub(crate) fn known_at(row: &[u16], lane: u16) -> SerialCell
-    requires { (545 ≤ length row.now) × (lane < 8) }
+    requires { (543 ≤ length row.now) × (lane < 8) }
     ensures { result.0 ≡ get_or (known_in row.now) lane 0 }
 {
     SerialCell(row[KNOWN + (lane as usize)])
 }
 
 pub(crate) fn stamp_of(row: &[u16], place: usize) -> Stamp
-    requires { (545 ≤ length row.now) × (place < 128) }
+    requires { (543 ≤ length row.now) × (place < 128) }
     ensures { result.0 ≡ get_or (post_in row.now).stamps place 0 }
 {
     Stamp(row[STAMPS + place])

@@ -7,8 +7,6 @@ use Prim.Native.Nat.{ℕ, ◌<◌, ◌≤◌}
 use native.Mathlib.Omega.{arith}
 use lib.ListN.{length, get_or-eq_default}
 use Rattle.post.specs.declared.Post.{Post}
-use Rattle.setup.specs.declared.Setup.{Setup}
-use Rattle.setup.specs.Setups.{EightBits}
 use Rattle.state.specs.Yards.{no_post, post_at, yard_refusal}
 use Rattle.yard.specs.Worlds.{World}
 use Rattle.roll.specs.Runs.{Step, run, Order}
@@ -40,10 +38,10 @@ desk_begins : (made : List LogItem → List ℕ) → ((s l : List LogItem) → B
 desk_begins made h s l (inl b) = inl (h (map item_of s) (map item_of l) (begins_made item_of s l b))
 desk_begins made h s l (inr b) = inr (h (map item_of l) (map item_of s) (begins_made item_of l s b))
 
-module _ (setup : Setup) (air : List ℕ) (small : EightBits setup)
-    (z : yard_refusal setup ≡ 0) where
+module _ (present sources dests : ℕ) (air : List ℕ) (small : present < 256) (smallSources : sources < 256) (smallDests : dests < 256)
+    (z : yard_refusal present sources dests ≡ 0) where
   abbrev w : World
-  w = fresh_world setup air
+  w = fresh_world present sources dests air
 
   -- ---- an air of the right length
 
@@ -51,21 +49,21 @@ module _ (setup : Setup) (air : List ℕ) (small : EightBits setup)
     -- a post of the yard
     lane_good : (steps : List Step) (lane : ℕ) → lane < 8 → GoodLog (desk_log (run w steps) lane)
     lane_good steps lane l =
-        post_good p i.shaped i.valid ((good setup air small z whole steps).yard_ok.posts_ok lane).log_ok.log_rises
+        post_good p i.shaped i.valid ((good present sources dests air small smallSources smallDests z whole steps).yard_ok.posts_ok lane).log_ok.log_rises
       where
         p : Post
         p = post_at (run w steps).yard lane
 
-        i : InYard setup lane p
-        i = (reached setup air small z whole steps).sound.post lane l
+        i : InYard present sources dests lane p
+        i = (reached present sources dests air small smallSources smallDests z whole steps).sound.post lane l
 
     -- past the eight lanes there is no log
     past_log : (steps : List Step) (lane : ℕ) → 8 ≤ lane → log_at (run w steps) lane ≡ []
     past_log steps lane l =
         ap orders_logged (get_or-eq_default (run w steps).yard.posts no_post {n = lane} (omega (arith, so.eight)))
       where
-        so : Sound setup (run w steps)
-        so = (reached setup air small z whole steps).sound
+        so : Sound present sources dests (run w steps)
+        so = (reached present sources dests air small smallSources smallDests z whole steps).sound
 
     right_good : (steps : List Step) (lane : ℕ) → GoodLog (desk_log (run w steps) lane)
     right_good steps lane = go (below_or_not lane 8)
@@ -79,7 +77,7 @@ module _ (setup : Setup) (air : List ℕ) (small : EightBits setup)
   wrong_good : length air ≢ 65536 → (steps : List Step) (lane : ℕ) → GoodLog (desk_log (run w steps) lane)
   wrong_good bad steps lane =
       nothing_good (log_at (run w steps) lane)
-      (ap (λ (x : World). log_at x lane) (never_runs w bad steps) ∙ fresh_log setup air lane)
+      (ap (λ (x : World). log_at x lane) (never_runs w bad steps) ∙ fresh_log present sources dests air lane)
 
   -- ---- any air
 
@@ -92,7 +90,7 @@ module _ (setup : Setup) (air : List ℕ) (small : EightBits setup)
       go (inr bad) = wrong_good bad
 
   logs_agree : LogsAgree w
-  logs_agree = (agreement setup air small z).agree
+  logs_agree = (agreement present sources dests air small smallSources smallDests z).agree
 
   gets : Exactly → ((l : List LogItem) → GoodLog l → length (log_text l) ≤ 1937) → DeskGets w
   gets exactly log_short = record {
@@ -111,4 +109,4 @@ module _ (setup : Setup) (air : List ℕ) (small : EightBits setup)
 
 -- for every fresh yard and every air, by what is proved of files
 pub desk_by : Exactly → ((l : List LogItem) → GoodLog l → length (log_text l) ≤ 1937) → Desk
-desk_by exactly log_short setup air a z = gets setup air a z exactly log_short
+desk_by exactly log_short present sources dests air a b c z = gets present sources dests air a b c z exactly log_short

@@ -1,9 +1,7 @@
 -- THE DESK GETS WHAT THE POST LOGGED, the statement: demand 3 carried to the bytes that the charging desk loads; document 02, K1.
 -- Assumes nothing.
-use Rattle.std.specs.Prelude.{ℕ, ◌≤◌, ◌≡◌, ◌⊎◌, List, map, ◌++◌, length}
+use Rattle.std.specs.Prelude.{ℕ, ◌<◌, ◌≤◌, ◌≡◌, ◌⊎◌, List, map, ◌++◌, length}
 use Rattle.laws.specs.Lists.{Begins}
-use Rattle.setup.specs.declared.Setup.{Setup}
-use Rattle.setup.specs.Setups.{EightBits}
 use Rattle.state.specs.Yards.{yard_refusal}
 use Rattle.yard.specs.Worlds.{World}
 use Rattle.roll.specs.Runs.{Step, run, Order}
@@ -45,5 +43,5 @@ pub record DeskGets (w : World) : Type 0 where
 
 -- for every fresh yard that is not refused, its sets being of eight bits, and every air, of any bytes and any length
 abbrev pub Desk : Type 0
-Desk = (setup : Setup) (air : List ℕ) → EightBits setup → yard_refusal setup ≡ 0
-    → DeskGets (fresh_world setup air)
+Desk = (present sources dests : ℕ) (air : List ℕ) → present < 256 → sources < 256 → dests < 256 → yard_refusal present sources dests ≡ 0
+    → DeskGets (fresh_world present sources dests air)

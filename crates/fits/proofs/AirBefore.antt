@@ -6,9 +6,9 @@ use Prim.Native.Nat.{ℕ, ◌+◌}
 use native.Mathlib.Omega.{arith}
 use lib.Dec.{eqb}
 use lib.ListN.{length}
-use Rattle.setup.specs.declared.Setup.{Setup}
 use Rattle.lines.specs.declared.Line.{Line}
-use Rattle.lines.specs.Lines.{first_line, later_lines}
+use Rattle.lines.specs.declared.Line.TheVariants.{Yard, Order, Hear, Beacon, Roll, Refused}
+use Rattle.lines.specs.Lines.{line_at}
 use Rattle.state.specs.Yards.{fresh_yard, yard_refusal, yard_made, FreshYard}
 use Rattle.yard.specs.Worlds.{World, Single, order, hear, beacon, single, singles}
 use Rattle.state.specs.Yards as yards
@@ -19,7 +19,7 @@ use Rattle.roll.specs.RollCall.{RollCalled}
 use Rattle.roll.specs.RollCall.{posts_hear, beacons_sent, posts_hear_beacons, roll_steps, roll_refusal, roll_call, roll_call_air}
 use Rattle.roll.specs.Runs.{Step, one, roll, ordered, heard, beaconed, called, answer, step, run}
 use Rattle.roll.specs.Answers.{answer_number}
-use Rattle.meaning.specs.Script.{step_of, refusal_of, world_after, refused_lines, script_start, script_world, script_text, printout}
+use Rattle.meaning.specs.Script.{step_of, yard_of, refusal_of, world_after, refused_lines, script_start, step_lines, script_world, script_text, printout}
 use Rattle.fits.specs.AirBefore.{AirBefore}
 use Rattle.fits.proofs.AirsAlike.{Alike, either, yard_orders_lem, yard_orders_airs, yard_hears_lem, yard_hears_airs, yard_beacons_lem, yard_beacons_airs}
 
@@ -47,7 +47,7 @@ singles_twins v w t (s ∷ l) = singles_twins (single v s) (single w s) (single_
 
 -- the list of a roll call, of the yard and the number of its first beacon's frame
 abbrev roll_list : yards.Yard → ℕ → List Single
-roll_list y from = posts_hear y 8 ++ (beacons_sent y.setup.sources 8 ++ posts_hear_beacons y.setup.posts y.setup.sources from 8)
+roll_list y from = posts_hear y 8 ++ (beacons_sent y.sources 8 ++ posts_hear_beacons y.present y.sources from 8)
 
 steps_twins : (v w : World) → Twins v w → roll_steps v ≡ roll_steps w
 unfolding roll_steps
@@ -105,26 +105,34 @@ refused_twins v w t n (l ∷ ls) =
     rw (refusal_twins v w t (step_of l), refused_twins (run v (step_of l)) (run w (step_of l)) (run_twins v w t (step_of l)) (n + 1) ls) refl
 
 -- before the first step no frame is on the air
-made_no_frame : (setup : Setup) → (yard_made setup).yard.frames ≡ 0
+made_no_frame : (present sources dests : ℕ) → (yard_made present sources dests).yard.frames ≡ 0
 unfolding yard_made fresh_yard
-made_no_frame setup = go (eqb (yard_refusal setup) 0) _ _ refl refl
+made_no_frame present sources dests = go (eqb (yard_refusal present sources dests) 0) _ _ refl refl
   where
     go : (t : Bool) (x y : FreshYard) → x.yard.frames ≡ 0 → y.yard.frames ≡ 0 → (cond t x y).yard.frames ≡ 0
     go true x y p q = p
     go false x y p q = q
 
+no_frame_lem : (l : Line) → (yard_of l).frames ≡ 0
+no_frame_lem (Yard posts sources dests next) = made_no_frame posts sources dests
+no_frame_lem (Order lane word next) = made_no_frame 0 0 0
+no_frame_lem (Hear lane frame next) = made_no_frame 0 0 0
+no_frame_lem (Beacon lane next) = made_no_frame 0 0 0
+no_frame_lem (Roll next) = made_no_frame 0 0 0
+no_frame_lem (Refused number) = made_no_frame 0 0 0
+
 module _ (s a b : List ℕ) (e : length a ≡ length b) where
   start_twins : Twins (script_start s a) (script_start s b)
-  start_twins = (refl, (e, λ k l r. absurd (omega (arith, made_no_frame (first_line s).setup))))
+  start_twins = (refl, (e, λ k l r. absurd (omega (arith, no_frame_lem (line_at s 0)))))
 
   -- the worlds that the script leads to
   pub script_twins : Twins (script_world s a) (script_world s b)
   unfolding script_world
-  script_twins = lines_twins (script_start s a) (script_start s b) start_twins (later_lines s)
+  script_twins = lines_twins (script_start s a) (script_start s b) start_twins (step_lines s)
 
   -- and what it prints of refused steps
-  pub refused_same : refused_lines (script_start s a) 1 (later_lines s) ≡ refused_lines (script_start s b) 1 (later_lines s)
-  refused_same = refused_twins (script_start s a) (script_start s b) start_twins 1 (later_lines s)
+  pub refused_same : refused_lines (script_start s a) 1 (step_lines s) ≡ refused_lines (script_start s b) 1 (step_lines s)
+  refused_same = refused_twins (script_start s a) (script_start s b) start_twins 1 (step_lines s)
 
   text_same : script_text s a ≡ script_text s b
   unfolding script_text

@@ -78,12 +78,12 @@ absent_refused false true false e z = omega (arith, z)
 absent_refused false false v e z = not_both false e refl
 
 absent_hears : (a : List ℕ) (p : Post) (n k : ℕ) → not_on_air n k ≡ true
-    → (post_hears a p n k ≡ record { answer = hearings.TheVariants.Refused (absent_refusal a p.lane p.setup.posts n k); post = p; frames = n })
+    → (post_hears a p n k ≡ record { answer = hearings.TheVariants.Refused (absent_refusal a p.lane p.posts n k); post = p; frames = n })
     × (post_hears_air a p n k ≡ a)
 unfolding post_hears post_hears_air
 absent_hears a p n k e =
-    let absent = absent_refusal a p.lane p.setup.posts n k in
-    let z = ne_eqb absent 0 (absent_refused (bad_air a) (not_on_air n k) (not_in_yard p.setup.posts p.lane) e) in
+    let absent = absent_refusal a p.lane p.posts n k in
+    let z = ne_eqb absent 0 (absent_refused (bad_air a) (not_on_air n k) (not_in_yard p.posts p.lane) e) in
     (rw (z, z) refl, rw (z, z) refl)
 
 module _ (a b : List ℕ) (p : Post) (n : ℕ) (h : Alike n a b) where

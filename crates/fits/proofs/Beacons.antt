@@ -107,7 +107,7 @@ lanes_none o y p (suc q) = rw (most_append, lanes_none o y p q) (go (eqb q p))
 hears_none : (o : ℕ) (y : Yard) (k : ℕ) → most_of o (posts_hear y k) ≡ 0
 unfolding posts_hear
 hears_none o y zero = unfold most_of in refl
-hears_none o y (suc p) = rw (most_append, hears_none o y p) (go (has_lane y.setup.posts p))
+hears_none o y (suc p) = rw (most_append, hears_none o y p) (go (has_lane y.present p))
   where
     go : (b : Bool) → ◌≡◌ {A = ℕ} (0 + most_of o (cond b (lanes_hears y p 8) [])) 0
     go true = rw (lanes_none o y p 8) refl
@@ -146,10 +146,10 @@ heard_none o sources from p (suc i) = rw (most_append, heard_none o sources from
     go false = unfold most_of in refl
 
 -- by the posts below k
-posts_none : (o : ℕ) (posts sources from k : ℕ) → most_of o (posts_hear_beacons posts sources from k) ≡ 0
+posts_none : (o : ℕ) (present sources from k : ℕ) → most_of o (posts_hear_beacons present sources from k) ≡ 0
 unfolding posts_hear_beacons
-posts_none o posts sources from zero = unfold most_of in refl
-posts_none o posts sources from (suc p) = rw (most_append, posts_none o posts sources from p) (go (has_lane posts p))
+posts_none o present sources from zero = unfold most_of in refl
+posts_none o present sources from (suc p) = rw (most_append, posts_none o present sources from p) (go (has_lane present p))
   where
     go : (b : Bool) → ◌≡◌ {A = ℕ} (0 + most_of o (cond b (beacons_heard sources from p 8) [])) 0
     go true = rw (heard_none o sources from p 8) refl
@@ -163,8 +163,8 @@ roll_few o w =
     (omega (
       arith,
       hears_none o w.yard 8,
-      beacons_few o w.yard.setup.sources 8,
-      posts_none o w.yard.setup.posts w.yard.setup.sources (singles w (posts_hear w.yard 8)).yard.frames 8,
+      beacons_few o w.yard.sources 8,
+      posts_none o w.yard.present w.yard.sources (singles w (posts_hear w.yard 8)).yard.frames 8,
     ))
 
 -- ---- a roll call

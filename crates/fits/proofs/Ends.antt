@@ -5,8 +5,6 @@ use mathlib.Core.List.{List, [], append-nil}
 use mathlib.Core.Logic.{◌⊎◌, inl, inr, ◌≢◌}
 use native.Mathlib.Omega.{arith}
 use lib.ListN.{length}
-use Rattle.setup.specs.declared.Setup.{Setup}
-use Rattle.setup.specs.Setups.{EightBits}
 use Rattle.lines.specs.declared.Line.{Line}
 use Rattle.lines.specs.Lines.{lines_from}
 use Rattle.state.specs.Yards.{post_at, beacons_at, yard_refusal}
@@ -46,10 +44,10 @@ wrong_end : (p t o n k at bytes : ℕ) → o ≤ 0 → bytes ≤ 48000 → t ≤
 wrong_end p t o n k at bytes b d e f = omega arith
 
 module _ (s : List ℕ) (short : length s ≤ 48000) (at : ℕ) (inside : at ≤ length s)
-    (setup : Setup) (air : List ℕ) (small : EightBits setup)
-    (z : yard_refusal setup ≡ 0) where
+    (present sources dests : ℕ) (air : List ℕ) (small : present < 256) (smallSources : sources < 256) (smallDests : dests < 256)
+    (z : yard_refusal present sources dests ≡ 0) where
   abbrev w : World
-  w = fresh_world setup air
+  w = fresh_world present sources dests air
 
   -- the lines from there on, and their steps
   abbrev ls : List Line
@@ -61,11 +59,11 @@ module _ (s : List ℕ) (short : length s ≤ 48000) (at : ℕ) (inside : at ≤
   -- ---- the posts' lines
 
   -- a post prints its log and 38 bytes at most
-  post_fits : Bounded setup air small z steps → (lane : ℕ) → lane < 8
+  post_fits : Bounded present sources dests air small smallSources smallDests z steps → (lane : ℕ) → lane < 8
       → length (post_text lane (post_at (run w steps).yard lane)) ≤ 38 + items_most (sent w steps)
   post_fits b lane l =
-      let d = demand setup air small z in
-      let f = yard_facts setup air small z in
+      let d = demand present sources dests air small smallSources smallDests z in
+      let f = yard_facts present sources dests air small smallSources smallDests z in
       omega (
         arith,
         post_length lane (post_at (run w steps).yard lane) l (omega (arith, b.clocks lane l)) (omega (arith, (f.serials steps lane).few)),
@@ -73,7 +71,7 @@ module _ (s : List ℕ) (short : length s ≤ 48000) (at : ℕ) (inside : at ≤
       )
 
   -- the eight posts
-  posts_fit : Bounded setup air small z steps
+  posts_fit : Bounded present sources dests air small smallSources smallDests z steps
       → length (posts_text (world_after w ls).yard 8) ≤ 8 * (38 + items_most (orders_of w ls))
   posts_fit b = rw (after_run w ls, orders_sent_lem w ls) (posts_length (run w steps).yard (38 + items_most (sent w steps)) (post_fits b) 8 (omega arith))
 
@@ -81,7 +79,7 @@ module _ (s : List ℕ) (short : length s ≤ 48000) (at : ℕ) (inside : at ≤
 
   -- a fresh yard has sent no beacon
   no_beacons : (q : ℕ) → beacons_at w.yard q ≡ 0
-  no_beacons q = ap (λ (f : ℕ → ℕ). f q) (fresh_beacons setup)
+  no_beacons q = ap (λ (f : ℕ → ℕ). f q) (fresh_beacons present sources dests)
 
   -- no step leads to it
   start : LedTo w w
@@ -89,7 +87,7 @@ module _ (s : List ℕ) (short : length s ≤ 48000) (at : ℕ) (inside : at ≤
 
   -- what the script's lines print and send
   counted : (q : ℕ) → AllCounted q w 1 at (length s) ls
-  counted q = lines_counted s short (LedTo w) (reached_next w) (reached_small setup air small z)
+  counted q = lines_counted s short (LedTo w) (reached_next w) (reached_small present sources dests air small smallSources smallDests z)
       q (length s) w 1 at start inside (λ l. omega arith)
 
   -- ---- both
@@ -100,7 +98,7 @@ module _ (s : List ℕ) (short : length s ≤ 48000) (at : ℕ) (inside : at ≤
       ⊎ (7 * length (refused_lines w 1 ls) + 56 * items_most (orders_of w ls) + 12 * at ≤ 12 * length s + 648 * length (orders_of w ls))
       → length (refused_lines w 1 ls) + length (posts_text (world_after w ls).yard 8) ≤ output_bytes
   counted_fits whole q h =
-      let b = right_bounded setup air small z whole steps in
+      let b = right_bounded present sources dests air small smallSources smallDests z whole steps in
       right_end (length (refused_lines w 1 ls)) (length (posts_text (world_after w ls).yard 8)) (items_most (orders_of w ls)) (length (orders_of w ls))
       (beacons_at (world_after w ls).yard q) (length ls) at (length s)
       (counted q).few (most_fifteen (orders_of w ls)) (rw (orders_sent_lem w ls) b.count) short (posts_fit b) (omega (arith, (counted q).sum, no_beacons q)) h
@@ -114,11 +112,11 @@ module _ (s : List ℕ) (short : length s ≤ 48000) (at : ℕ) (inside : at ≤
       right whole (inr h) = counted_fits whole 0 (inr h)
 
       go : (length air ≡ 65536) ⊎ (length air ≢ 65536) → length (refused_lines w 1 ls) + length (posts_text (world_after w ls).yard 8) ≤ output_bytes
-      go (inl whole) = right whole (lines_unless_spent s short (LedTo w) (reached_next w) (reached_small setup air small z)
-          (right_spent setup air small z whole) (length s) w 1 at start inside (λ l. omega arith))
+      go (inl whole) = right whole (lines_unless_spent s short (LedTo w) (reached_next w) (reached_small present sources dests air small smallSources smallDests z)
+          (right_spent present sources dests air small smallSources smallDests z whole) (length s) w 1 at start inside (λ l. omega arith))
       go (inr bad) =
-          let b = wrong_bounded setup air small z bad steps in
-          let none : orders_of w ls ≡ [] = rw (orders_sent_lem w ls) (wrong_sent setup air small z bad steps) in
+          let b = wrong_bounded present sources dests air small smallSources smallDests z bad steps in
+          let none : orders_of w ls ≡ [] = rw (orders_sent_lem w ls) (wrong_sent present sources dests air small smallSources smallDests z bad steps) in
           let few : length (orders_of w ls) ≡ 0 = ap (λ (o : List runs.Order). length o) none in
           wrong_end (length (refused_lines w 1 ls)) (length (posts_text (world_after w ls).yard 8)) (items_most (orders_of w ls))
           (beacons_at (world_after w ls).yard 0) (length ls) at (length s)

@@ -8,9 +8,8 @@ use native.Mathlib.Omega.{arith}
 use lib.Dec.{eqb}
 use lib.ListN.{length}
 use Rattle.text.specs.Decimal.{decimal}
-use Rattle.lines.specs.declared.Asked.{Asked}
-use Rattle.lines.specs.declared.Asked.TheVariants.{Order, Hear, Beacon, Roll, Nothing}
 use Rattle.lines.specs.declared.Line.{Line}
+use Rattle.lines.specs.declared.Line.TheVariants.{Yard, Order, Hear, Beacon, Roll, Refused}
 use Rattle.steps.specs.declared.OrderAnswer as orders
 use Rattle.steps.specs.Answers.{order_number}
 use Rattle.state.specs.Yards.{beacons_at}
@@ -20,13 +19,13 @@ use Rattle.roll.specs.RollCall.{roll_refusal}
 use Rattle.roll.specs.Runs.{Step, one, roll, answer, step, run, order_sent_by, sent_by, sent}
 use Rattle.roll.specs.Runs as runs
 use Rattle.roll.specs.Answers.{answer_number}
-use Rattle.meaning.specs.Script.{step_asked, step_of, refusal_of}
+use Rattle.meaning.specs.Script.{step_of, refusal_of}
 use Rattle.laws.proofs.TestLaws.{same_or_not, below_or_not}
 use Rattle.scan.proofs.Decimal.{at_most_5}
 use Rattle.fits.proofs.TextLengths.{printed, printed_none, printed_19, printed_18, printed_17}
 use Rattle.fits.proofs.ItemLengths.{items_most}
 use Rattle.fits.proofs.Beacons.{Sends, single_sends, beacon_refused_none, roll_number_lem, refused_none, roll_sends}
-use Rattle.fits.proofs.LineLengths.{least_asked, least}
+use Rattle.fits.proofs.LineLengths.{least}
 
 -- a line that follows line n prints p bytes, takes c bytes of the script, sends the orders o and leaves v for w; counted are the beacons of lane q
 -- Seven times: a roll call's line takes 7 bytes, and refused it prints 18, or 17 up to line 999; 56 is 7 for each of eight logs. An order that is
@@ -182,29 +181,23 @@ module _ (w : World) (n : ℕ) (low : n + 1 < 10000) (small : (s : Step) → ans
 
   -- ---- every line
 
-  -- whatever the line asks for
-  asked_counted : (q : ℕ) (a : Asked)
-      → Counted q w (run w (step_asked a)) n (length (printed (n + 1) (refusal_of w (step_asked a)))) (least_asked a) (sent w (step_asked a))
-  unfolding run sent sent_by
-  asked_counted q (Order lane word) = order_counted q lane word
-  asked_counted q (Hear lane frame) = hear_counted q lane frame
-  asked_counted q (Beacon lane) = beacon_counted q lane
-  asked_counted q Roll = roll_counted q
-  asked_counted q Nothing = no_step_lem q w n 1 (omega arith)
-
+  -- whatever the line
   pub line_counted : (q : ℕ) (l : Line) → Counted q w (run w (step_of l)) n (length (printed (n + 1) (refusal_of w (step_of l)))) (least l) (sent w (step_of l))
-  line_counted q l = asked_counted q l.step
+  unfolding run sent sent_by
+  line_counted q (Yard posts sources dests next) = no_step_lem q w n 7 (omega arith)
+  line_counted q (Order lane word next) = order_counted q lane word
+  line_counted q (Hear lane frame next) = hear_counted q lane frame
+  line_counted q (Beacon lane next) = beacon_counted q lane
+  line_counted q (Roll next) = roll_counted q
+  line_counted q (Refused number) = no_step_lem q w n 1 (omega arith)
 
   -- the same as long as beacons are left
-  module _ (spent : roll_refusal w ≢ 0 → SomeSpent w) where
-    asked_unless_spent : (a : Asked)
-        → UnlessSpent (run w (step_asked a)) (length (printed (n + 1) (refusal_of w (step_asked a)))) (least_asked a) (sent w (step_asked a))
-    unfolding run sent sent_by
-    asked_unless_spent (Order lane word) = order_unless_spent lane word
-    asked_unless_spent (Hear lane frame) = unfold items_most in inr (omega (arith, line_18 (one (hear lane frame))))
-    asked_unless_spent (Beacon lane) = unfold items_most in inr (omega (arith, line_18 (one (beacon lane))))
-    asked_unless_spent Roll = roll_unless_spent spent
-    asked_unless_spent Nothing = unfold items_most in inr (omega arith)
-
-    pub line_unless_spent : (l : Line) → UnlessSpent (run w (step_of l)) (length (printed (n + 1) (refusal_of w (step_of l)))) (least l) (sent w (step_of l))
-    line_unless_spent l = asked_unless_spent l.step
+  pub line_unless_spent : (roll_refusal w ≢ 0 → SomeSpent w)
+      → (l : Line) → UnlessSpent (run w (step_of l)) (length (printed (n + 1) (refusal_of w (step_of l)))) (least l) (sent w (step_of l))
+  unfolding run sent sent_by
+  line_unless_spent spent (Yard posts sources dests next) = unfold items_most in inr (omega arith)
+  line_unless_spent spent (Order lane word next) = order_unless_spent lane word
+  line_unless_spent spent (Hear lane frame next) = unfold items_most in inr (omega (arith, line_18 (one (hear lane frame))))
+  line_unless_spent spent (Beacon lane next) = unfold items_most in inr (omega (arith, line_18 (one (beacon lane))))
+  line_unless_spent spent (Roll next) = roll_unless_spent spent
+  line_unless_spent spent (Refused number) = unfold items_most in inr (omega arith)

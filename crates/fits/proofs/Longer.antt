@@ -1,19 +1,19 @@
 -- A longer script runs, refuses and logs first what its beginning does, proved: `longer_scripts`. Assumes nothing.
-use Prim.Native.Nat.{ℕ, ◌+◌}
+use Prim.Native.Nat.{ℕ, ◌+◌, ◌<◌}
 use mathlib.Core.Path.{◌≡◌, refl, sym, ap, ◌∙◌}
 use mathlib.Core.List.{List, [], ◌∷◌, ◌++◌, append_assoc}
 use mathlib.Core.Bool.{not}
 use mathlib.Core.Logic.{◌⊎◌, inl, inr, ◌≢◌}
+use native.Mathlib.Omega.{arith}
 use lib.Dec.{eqb}
-use lib.ListN.{length}
+use lib.ListN.{length, length-append}
 use Rattle.text.specs.Decimal.{given}
-use Rattle.setup.specs.declared.Setup.{Setup}
-use Rattle.setup.specs.Setups.{EightBits}
 use Rattle.laws.specs.Lists.{Begins}
 use Rattle.laws.proofs.ListLaws.{begins_itself}
 use Rattle.laws.proofs.TestLaws.{same_or_not}
 use Rattle.lines.specs.declared.Line.{Line}
-use Rattle.lines.specs.Lines.{first_line, later_lines, judged}
+use Rattle.lines.specs.declared.Line.TheVariants.{Yard}
+use Rattle.lines.specs.Lines.{line_at, judged}
 use Rattle.state.specs.Yards.{yard_refusal}
 use Rattle.yard.specs.Worlds.{World}
 use Rattle.roll.specs.Runs.{Step, run}
@@ -24,13 +24,15 @@ use Rattle.agreement.specs.Demand3 as demand
 use Rattle.agreement.proofs.Views.{roles_of, yard_view}
 use Rattle.agreement.proofs.WrongAir.{never_runs}
 use Rattle.agreement.proofs.Theorem.{ro, reached, good}
-use Rattle.written.proofs.WholeScripts.{first_right, whole_scripts}
+use Rattle.written.proofs.LineLists.{lines_more}
+use Rattle.written.proofs.WholeScripts.{judged_passed, whole_scripts}
 use Rattle.meaning.specs.Texts.{refused_text}
-use Rattle.meaning.specs.Script.{step_of, refusal_of, world_after, refused_lines, script_start, script_world}
+use Rattle.meaning.specs.Script.{step_of, refusal_of, world_after, refused_lines, script_start, step_lines, script_world}
 use Rattle.fits.specs.Printed.{steps_of}
 use Rattle.fits.specs.Longer.{LongerScripts}
+use Rattle.fits.proofs.LineLengths.{accepted}
 use Rattle.fits.proofs.Runs.{run_append, after_run}
-use Rattle.fits.proofs.Printed.{printed}
+use Rattle.fits.proofs.Printed.{printed, same_parts}
 use Rattle.fits.proofs.AirBefore.{script_twins, refused_same}
 
 -- ---- lines and then more lines
@@ -57,28 +59,34 @@ refused_append w n (l ∷ ls) ms =
 
 -- line 1 is the same, and the other lines begin with those of the beginning
 lines_longer : (s more : List ℕ) → (judged s).number ≡ 0
-    → (first_line (s ++ more) ≡ first_line s) × Begins (later_lines s) (later_lines (s ++ more))
-lines_longer s more z = let r = whole_scripts.longer s more z in (r.0, (r.1, r.2))
+    → (line_at (s ++ more) 0 ≡ line_at s 0) × Begins (step_lines s) (step_lines (s ++ more))
+lines_longer s more z =
+    let some = (judged_passed s z).1 in
+    let n = length-append s more in
+    let r = whole_scripts.longer s more z in
+    let e = same_parts (line_at (s ++ more) 0) (line_at s 0) (step_lines (s ++ more)) (step_lines s ++ r.0)
+    (sym (lines_more (s ++ more) 0 (omega arith)) ∙ r.1 ∙ ap (λ (ls : List Line). ls ++ r.0) (lines_more s 0 some)) in
+    (e.0, (r.0, e.1))
 
 -- ---- logs grow
 
-module _ (setup : Setup) (air : List ℕ) (small : EightBits setup)
-    (z : yard_refusal setup ≡ 0) where
+module _ (present sources dests : ℕ) (air : List ℕ) (small : present < 256) (smallSources : sources < 256) (smallDests : dests < 256)
+    (z : yard_refusal present sources dests ≡ 0) where
   abbrev w : World
-  w = demand.fresh_world setup air
+  w = demand.fresh_world present sources dests air
 
   whole_air : length air ≡ 65536 → (l m : List Step) (lane : ℕ) → Begins (log_at (run w l) lane) (log_at (run w (l ++ m)) lane)
   whole_air e l m lane =
       rw (ap (λ (Y : model.Yard). (Y.posts lane).log) then)
-      (moves_log R (ro setup air small z e) (yard_view (run w l)) _ (good setup air small z e l) m lane)
+      (moves_log R (ro present sources dests air small smallSources smallDests z e) (yard_view (run w l)) _ (good present sources dests air small smallSources smallDests z e l) m lane)
     where
       R : model.Roles
-      R = roles_of setup
+      R = roles_of present sources dests
 
       then : yard_view (run w (l ++ m)) ≡ moves R (yard_view (run w l)) m
-      then = (reached setup air small z e (l ++ m)).view
+      then = (reached present sources dests air small smallSources smallDests z e (l ++ m)).view
           ∙ moves_append R (yard_view w) l m
-          ∙ ap (λ (Y : model.Yard). moves R Y m) (sym (reached setup air small z e l).view)
+          ∙ ap (λ (Y : model.Yard). moves R Y m) (sym (reached present sources dests air small smallSources smallDests z e l).view)
 
   other_air : length air ≢ 65536 → (l m : List Step) (lane : ℕ) → Begins (log_at (run w l) lane) (log_at (run w (l ++ m)) lane)
   other_air n l m lane = rw (never_runs w n l, never_runs w n (l ++ m)) (begins_itself (log_at w lane))
@@ -96,7 +104,7 @@ module _ (s more air : List ℕ) (z : (judged s).number ≡ 0) where
   t : List ℕ
   t = s ++ more
 
-  lines : (first_line t ≡ first_line s) × Begins (later_lines s) (later_lines t)
+  lines : (line_at t 0 ≡ line_at s 0) × Begins (step_lines s) (step_lines t)
   unfolding t
   lines = lines_longer s more z
 
@@ -107,34 +115,35 @@ module _ (s more air : List ℕ) (z : (judged s).number ≡ 0) where
   on : List Step
   on = steps_of lines.1.0
 
-  steps_begin : Begins (steps_of (later_lines s)) (steps_of (later_lines t))
+  steps_begin : Begins (steps_of (step_lines s)) (steps_of (step_lines t))
   unfolding on
-  steps_begin = (on, ap steps_of lines.1.1 ∙ steps_append (later_lines s) lines.1.0)
+  steps_begin = (on, ap steps_of lines.1.1 ∙ steps_append (step_lines s) lines.1.0)
 
-  refused_begin : Begins (refused_lines (script_start s air) 1 (later_lines s)) (refused_lines (script_start t air) 1 (later_lines t))
-  refused_begin = rw (start_same, lines.1.1) (refused_append (script_start s air) 1 (later_lines s) lines.1.0)
+  refused_begin : Begins (refused_lines (script_start s air) 1 (step_lines s)) (refused_lines (script_start t air) 1 (step_lines t))
+  refused_begin = rw (start_same, lines.1.1) (refused_append (script_start s air) 1 (step_lines s) lines.1.0)
 
   -- the longer script runs on where s ended
   runs_on : script_world t air ≡ run (script_world s air) on
   unfolding script_world on
   runs_on =
-      ap (λ (v : World). world_after v (later_lines t)) start_same
+      ap (λ (v : World). world_after v (step_lines t)) start_same
       ∙ ap (world_after (script_start s air)) lines.1.1
-      ∙ after_append (script_start s air) (later_lines s) lines.1.0
+      ∙ after_append (script_start s air) (step_lines s) lines.1.0
       ∙ after_run (script_world s air) lines.1.0
 
   logs_begin_lem : (lane : ℕ) → Begins (log_at (script_world s air) lane) (log_at (script_world t air) lane)
   logs_begin_lem lane =
       let p = printed s air z in
-      let fresh = demand.fresh_world (first_line s).setup air in
-      rw (runs_on, p.2, ← run_append fresh (steps_of (later_lines s)) on)
-      (logs_grow (first_line s).setup air (first_right s z).0.sets p.1 (steps_of (later_lines s)) on lane)
+      let r = (accepted s 0 (Yard p.0 p.1 p.2 p.3) p.4 refl).0 in
+      let fresh = demand.fresh_world p.0 p.1 p.2 air in
+      rw (runs_on, p.6, ← run_append fresh (steps_of (step_lines s)) on)
+      (logs_grow p.0 p.1 p.2 air r.2 r.3 r.4 p.5 (steps_of (step_lines s)) on lane)
 
   logs_agree : (a b : ℕ) → Begins (log_at (script_world s air) a) (log_at (script_world t air) b) ⊎ Begins (log_at (script_world t air) b) (log_at (script_world s air) a)
   logs_agree a b =
       let p = printed s air z in
-      let fresh = demand.fresh_world (first_line s).setup air in
-      rw (runs_on, p.2, ← run_append fresh (steps_of (later_lines s)) on) (p.3.agree (steps_of (later_lines s)) on a b)
+      let fresh = demand.fresh_world p.0 p.1 p.2 air in
+      rw (runs_on, p.6, ← run_append fresh (steps_of (step_lines s)) on) (p.7.agree (steps_of (step_lines s)) on a b)
 
 -- ---- on two airs of one length
 

@@ -10,8 +10,6 @@ use lib.ListN.{length}
 use borrow.Author.Tests.{leb-true, eq-eqb}
 use Rattle.air.specs.Air.{bad_air}
 use Rattle.cells.specs.Sets.{has_lane}
-use Rattle.setup.specs.declared.Setup.{Setup}
-use Rattle.setup.specs.Setups.{EightBits}
 use Rattle.lines.specs.declared.Line.{Line}
 use Rattle.state.specs.Yards.{post_at, beacons_at, spent, yard_refusal}
 use Rattle.yard.specs.Singles.{frame_at}
@@ -76,19 +74,19 @@ small_number w (one (order lane word)) =
     two_digits (ltb 7 lane) 4 _ (omega arith)
     (two_digits (ltb 65535 word) 5 _ (omega arith)
     (two_digits (bad_air w.air) 13 _ (omega arith)
-    (two_digits (not (has_lane w.yard.setup.posts lane)) 21 _ (omega arith)
-    (two_digits (not (has_lane w.yard.setup.sources lane)) 22 _ (omega arith)
+    (two_digits (not (has_lane w.yard.present lane)) 21 _ (omega arith)
+    (two_digits (not (has_lane w.yard.sources lane)) 22 _ (omega arith)
     (two_digits (leb 16 (post_at w.yard lane).serial.0) 23 0 (omega arith) (omega arith))))))
 small_number w (one (hear lane k)) =
     two_digits (ltb 7 lane) 4 _ (omega arith)
     (two_digits (bad_air w.air) 13 _ (omega arith)
-    (two_digits (not (has_lane w.yard.setup.posts lane)) 21 _ (omega arith)
+    (two_digits (not (has_lane w.yard.present lane)) 21 _ (omega arith)
     (two_digits (leb w.yard.frames k) 25 _ (omega arith)
     (two_digits (eqb (frame_at w.air k).sender lane) 26 0 (omega arith) (omega arith)))))
 small_number w (one (beacon lane)) =
     two_digits (ltb 7 lane) 4 _ (omega arith)
     (two_digits (bad_air w.air) 13 _ (omega arith)
-    (two_digits (not (has_lane w.yard.setup.posts lane)) 21 _ (omega arith)
+    (two_digits (not (has_lane w.yard.present lane)) 21 _ (omega arith)
     (two_digits (spent (beacons_at w.yard lane)) 27 0 (omega arith) (omega arith))))
 small_number w roll =
     two_digits (bad_air w.air) 13 _ (omega arith)
@@ -103,18 +101,18 @@ LedTo w v = (steps : List Step) × (run w steps ≡ v)
 pub reached_next : (w v : World) → LedTo w v → (x : Step) → LedTo w (step v x)
 reached_next w v r x = (r.0 ++ (x ∷ []), run_last w r.0 x ∙ ap (λ (u : World). step u x) r.1)
 
-module _ (setup : Setup) (air : List ℕ) (small : EightBits setup)
-    (z : yard_refusal setup ≡ 0) where
+module _ (present sources dests : ℕ) (air : List ℕ) (small : present < 256) (smallSources : sources < 256) (smallDests : dests < 256)
+    (z : yard_refusal present sources dests ≡ 0) where
   abbrev w : World
-  w = fresh_world setup air
+  w = fresh_world present sources dests air
 
   -- demand 3 of the fresh world
-  pub demand : Demand3 setup w
-  demand = agreement setup air small z
+  pub demand : Demand3 present sources dests w
+  demand = agreement present sources dests air small smallSources smallDests z
 
   -- and what else holds of it
   pub yard_facts : YardFacts w
-  yard_facts = facts setup air small z
+  yard_facts = facts present sources dests air small smallSources smallDests z
 
   -- so each answer's number has two digits
   pub reached_small : (v : World) → LedTo w v → (x : Step) → answer_number (answer v x) < 100
@@ -141,11 +139,11 @@ module _ (setup : Setup) (air : List ℕ) (small : EightBits setup)
       count = omega (arith, g.sent_count, sum_bound (λ (i : ℕ). ((yard_view (run w steps)).posts i).own) 8 16 (λ i. (g.yard_ok.selves i).own_at_most));
     }
       where
-        g : Good (roles_of setup) (ro setup air small z whole) (yard_view (run w steps)) (sent w steps)
-        g = good setup air small z whole steps
+        g : Good (roles_of present sources dests) (ro present sources dests air small smallSources smallDests z whole) (yard_view (run w steps)) (sent w steps)
+        g = good present sources dests air small smallSources smallDests z whole steps
 
         low : (i : ℕ) → ((yard_view (run w steps)).posts i).clock ≤ 1024
-        low i = good_clock (roles_of setup) (ro setup air small z whole) (yard_view (run w steps)) (sent w steps) g i
+        low i = good_clock (roles_of present sources dests) (ro present sources dests air small smallSources smallDests z whole) (yard_view (run w steps)) (sent w steps) g i
 
     -- a roll call is refused only where some source has sent its 128
     pub right_spent : (v : World) → LedTo w v → roll_refusal v ≢ 0 → SomeSpent v
@@ -155,16 +153,16 @@ module _ (setup : Setup) (air : List ℕ) (small : EightBits setup)
         u : World
         u = run w r.0
 
-        so : Sound setup u
-        so = (reached setup air small z whole r.0).sound
+        so : Sound present sources dests u
+        so = (reached present sources dests air small smallSources smallDests z whole r.0).sound
 
         test : ℕ → Bool
-        test i = has_lane u.yard.setup.sources i && spent (beacons_at u.yard i)
+        test i = has_lane u.yard.sources i && spent (beacons_at u.yard i)
 
         go : (source_spent u.yard ≡ true) ⊎ (source_spent u.yard ≡ false) → SomeSpent u
         go (inl e) =
             let q = some_which test 8 e in
-            (q.0, leb-true 128 (beacons_at u.yard q.0) (and_parts (has_lane u.yard.setup.sources q.0) (spent (beacons_at u.yard q.0)) q.2).1)
+            (q.0, leb-true 128 (beacons_at u.yard q.0) (and_parts (has_lane u.yard.sources q.0) (spent (beacons_at u.yard q.0)) q.2).1)
         go (inr e) = absurd (n (rw (← r.1) (rw (eq-eqb (length u.air) 65536 so.whole, e))))
 
   -- ---- an air of another length
@@ -177,7 +175,7 @@ module _ (setup : Setup) (air : List ℕ) (small : EightBits setup)
     -- and nothing changes
     pub wrong_bounded : (steps : List Step) → Bounded steps
     wrong_bounded steps = record {
-      clocks = λ lane l. rw (never_runs w bad steps, fresh_at setup lane l) (omega arith);
+      clocks = λ lane l. rw (never_runs w bad steps, fresh_at present sources dests lane l) (omega arith);
       short = rw (wrong_sent steps) (λ o m. absurd m);
       count = rw (wrong_sent steps) (omega arith);
     }

@@ -5,17 +5,16 @@ use mathlib.Core.List.{List, [], ◌∷◌, ◌++◌}
 use mathlib.Core.Logic.{◌⊎◌, inl, inr, ◌≢◌}
 use native.Mathlib.Omega.{arith}
 use lib.ListN.{length, length-append}
-use Rattle.lines.specs.declared.Asked.{Asked}
-use Rattle.lines.specs.declared.Asked.TheVariants.{Order, Hear, Beacon, Roll, Nothing}
 use Rattle.lines.specs.declared.Line.{Line}
-use Rattle.lines.specs.Lines.{line_at, lines_from}
+use Rattle.lines.specs.declared.Line.TheVariants.{Yard, Order, Hear, Beacon, Roll, Refused}
+use Rattle.lines.specs.Lines.{line_at, next_of, lines_from}
 use Rattle.state.specs.Yards.{beacons_at}
 use Rattle.yard.specs.Worlds.{World, order, hear, beacon}
 use Rattle.roll.specs.RollCall.{roll_refusal}
 use Rattle.roll.specs.Runs.{Step, one, roll, answer, step, run, sent}
 use Rattle.roll.specs.Runs as runs
 use Rattle.roll.specs.Answers.{answer_number}
-use Rattle.meaning.specs.Script.{step_asked, step_of, refusal_of, world_after, refused_lines}
+use Rattle.meaning.specs.Script.{step_of, refusal_of, world_after, refused_lines}
 use Rattle.laws.proofs.TestLaws.{below_or_not}
 use Rattle.written.proofs.LineLists.{lines_one, lines_none}
 use Rattle.fits.proofs.TextLengths.{printed}
@@ -103,45 +102,43 @@ module _ (s : List ℕ) (short : length s ≤ 48000)
     (Keep : World → Type 0) (keeps : (w : World) → Keep w → (x : Step) → Keep (step w x))
     (small : (w : World) → Keep w → (x : Step) → answer_number (answer w x) < 100) where
   -- a line leads to a world that the steps lead to
-  keep_asked : (w : World) → Keep w → (a : Asked) → Keep (run w (step_asked a))
-  unfolding run
-  keep_asked w g (Order lane word) = keeps w g (one (order lane word))
-  keep_asked w g (Hear lane frame) = keeps w g (one (hear lane frame))
-  keep_asked w g (Beacon lane) = keeps w g (one (beacon lane))
-  keep_asked w g Roll = keeps w g roll
-  keep_asked w g Nothing = g
-
   keep_line : (w : World) → Keep w → (l : Line) → Keep (run w (step_of l))
-  keep_line w g l = keep_asked w g l.step
+  unfolding run
+  keep_line w g (Yard posts sources dests next) = g
+  keep_line w g (Order lane word next) = keeps w g (one (order lane word))
+  keep_line w g (Hear lane frame next) = keeps w g (one (hear lane frame))
+  keep_line w g (Beacon lane next) = keeps w g (one (beacon lane))
+  keep_line w g (Roll next) = keeps w g roll
+  keep_line w g (Refused number) = g
 
   -- the lines before a place take 7 bytes each, but for the first
   abbrev Low : ℕ → ℕ → Type 0
   Low n at = at < length s → 7 * n ≤ at + 7
 
   -- so after the line too
-  low_next : (n at : ℕ) → at < length s → Low n at → Low (n + 1) (line_at s at).next
+  low_next : (n at : ℕ) → at < length s → Low n at → Low (n + 1) (next_of s (line_at s at))
   low_next n at l h = go (reaches s at l).last
     where
-      go : (at + 7 ≤ (line_at s at).next) ⊎ ((line_at s at).next ≡ length s) → Low (n + 1) (line_at s at).next
+      go : (at + 7 ≤ next_of s (line_at s at)) ⊎ (next_of s (line_at s at) ≡ length s) → Low (n + 1) (next_of s (line_at s at))
       go (inl f) k = omega (arith, h l)
       go (inr e) k = absurd (omega arith)
 
   -- a line, and the lines after it
   abbrev rest : ℕ → ℕ → List Line
-  rest at k = lines_from s (line_at s at).next k
+  rest at k = lines_from s (next_of s (line_at s at)) k
 
   abbrev then : World → ℕ → World
   then w at = run w (step_of (line_at s at))
 
   -- the line at a place, with what holds of those after it
   step_counted : (q : ℕ) (w : World) (n at k : ℕ) → Keep w → at ≤ length s → Low n at
-      → (at < length s → AllCounted q (then w at) (n + 1) (line_at s at).next (length s) (rest at k))
+      → (at < length s → AllCounted q (then w at) (n + 1) (next_of s (line_at s at)) (length s) (rest at k))
       → AllCounted q w n at (length s) (lines_from s at (suc k))
   step_counted q w n at k g h low ih = go (below_or_not at (length s))
     where
       go : (at < length s) ⊎ (length s ≤ at) → AllCounted q w n at (length s) (lines_from s at (suc k))
       go (inl l) = rw (lines_one s at k l)
-          (more_counted w n at (line_at s at).next (length s) (line_at s at) (rest at k) (reaches s at l).far q
+          (more_counted w n at (next_of s (line_at s at)) (length s) (line_at s at) (rest at k) (reaches s at l).far q
           (line_counted w n (omega (arith, low l)) (small w g) q (line_at s at)) (ih l))
       go (inr l) = rw (lines_none s at (suc k) l) (none_counted q w n at (length s) h)
 
@@ -150,22 +147,22 @@ module _ (s : List ℕ) (short : length s ≤ 48000)
   unfolding lines_from
   lines_counted q zero w n at g h low = none_counted q w n at (length s) h
   lines_counted q (suc k) w n at g h low = step_counted q w n at k g h low
-      (λ l. lines_counted q k (then w at) (n + 1) (line_at s at).next (keep_line w g (line_at s at)) (reaches s at l).inside (low_next n at l low))
+      (λ l. lines_counted q k (then w at) (n + 1) (next_of s (line_at s at)) (keep_line w g (line_at s at)) (reaches s at l).inside (low_next n at l low))
 
   -- ---- as long as beacons are left
 
   module _ (spent : (w : World) → Keep w → roll_refusal w ≢ 0 → SomeSpent w) where
     -- the line at a place, with what holds of those after it
     step_unless_spent : (w : World) (n at k : ℕ) → Keep w → at ≤ length s → Low n at
-        → (at < length s → AllUnlessSpent (then w at) (n + 1) (line_at s at).next (length s) (rest at k))
+        → (at < length s → AllUnlessSpent (then w at) (n + 1) (next_of s (line_at s at)) (length s) (rest at k))
         → AllUnlessSpent w n at (length s) (lines_from s at (suc k))
     step_unless_spent w n at k g h low ih = go (below_or_not at (length s))
       where
         go : (at < length s) ⊎ (length s ≤ at) → AllUnlessSpent w n at (length s) (lines_from s at (suc k))
         go (inl l) = rw (lines_one s at k l)
-            (more_unless_spent w n at (line_at s at).next (length s) (line_at s at) (rest at k) (reaches s at l).far
+            (more_unless_spent w n at (next_of s (line_at s at)) (length s) (line_at s at) (rest at k) (reaches s at l).far
             (line_unless_spent w n (omega (arith, low l)) (small w g) (spent w g) (line_at s at))
-            (λ q. lines_counted q k (then w at) (n + 1) (line_at s at).next (keep_line w g (line_at s at)) (reaches s at l).inside (low_next n at l low))
+            (λ q. lines_counted q k (then w at) (n + 1) (next_of s (line_at s at)) (keep_line w g (line_at s at)) (reaches s at l).inside (low_next n at l low))
             (ih l))
         go (inr l) = rw (lines_none s at (suc k) l) (none_unless_spent w n at (length s) h)
 
@@ -174,4 +171,4 @@ module _ (s : List ℕ) (short : length s ≤ 48000)
     unfolding lines_from
     lines_unless_spent zero w n at g h low = none_unless_spent w n at (length s) h
     lines_unless_spent (suc k) w n at g h low = step_unless_spent w n at k g h low
-        (λ l. lines_unless_spent k (then w at) (n + 1) (line_at s at).next (keep_line w g (line_at s at)) (reaches s at l).inside (low_next n at l low))
+        (λ l. lines_unless_spent k (then w at) (n + 1) (next_of s (line_at s at)) (keep_line w g (line_at s at)) (reaches s at l).inside (low_next n at l low))

@@ -79,7 +79,7 @@ pub posts_length : (y : Yard) (most : ℕ) → ((lane : ℕ) → lane < 8 → le
 unfolding posts_text
 posts_length y most each zero h = omega arith
 posts_length y most each (suc lane) h =
-    rw length-append (omega (arith, posts_length y most each lane (omega arith), go (has_lane y.setup.posts lane)))
+    rw length-append (omega (arith, posts_length y most each lane (omega arith), go (has_lane y.present lane)))
   where
     go : (b : Bool) → length (cond b (post_text lane (post_at y lane)) []) ≤ most
     go true = each lane (omega arith)

@@ -171,7 +171,7 @@ log_parts last log logged n x y e p q =
 -- ---- what a row knows
 
 -- it was told by a copy
-pub learned : (l m known t : List ℕ) → 545 ≤ length l → length known ≡ 8 → t ≡ copied known (take (22 - 14) (drop 14 l))
+pub learned : (l m known t : List ℕ) → 543 ≤ length l → length known ≡ 8 → t ≡ copied known (take (22 - 14) (drop 14 l))
     → m ≡ take 14 l ++ (t ++ drop (22 - 14) (drop 14 l))
     → (post_in m ≡ post_in l) × ((known_in m ≡ known) × (past_in m ≡ past_in l))
 learned l m known t h k et em =

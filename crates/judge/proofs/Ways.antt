@@ -8,8 +8,7 @@ use borrow.Author.Tests.{le-leb, lt-leb}
 use lib.Dec.{ltb, leb, eqb}
 use lib.ListN.{length, get_or, take, drop, replicate}
 use Rattle.frame.specs.Lanes.{any_below}
-use Rattle.setup.specs.Setups.{bad_setup}
-use Rattle.setup.specs.declared.Setup.{Setup}
+use Rattle.cells.specs.Sets.{role_astray}
 use Rattle.post.specs.declared.Post.{Post}
 use Rattle.row.specs.Rows.{part, post_in, known_in, past_in}
 use Rattle.deliver.specs.Known.{Known, known_below}
@@ -21,12 +20,12 @@ use Rattle.judge.proofs.Laws.{log_parts}
 
 -- ---- the numbers
 
-pub numbers_are : (l : List ℕ) (lane serial logged own spare : ℕ) (s : Setup) (serials bad : Bool) → lane ≡ (post_in l).lane → serial ≡ (post_in l).serial.0
+pub numbers_are : (l : List ℕ) (lane serial logged own posts sources dests : ℕ) (serials roles : Bool) → lane ≡ (post_in l).lane → serial ≡ (post_in l).serial.0
     → logged ≡ (post_in l).logged → own ≡ get_or (part l 6 8) lane 0 → serials ≡ any_below (λ (i : ℕ). ltb 16 (get_or (take 8 (drop 6 l)) i 0)) 8
-    → spare ≡ (post_in l).spare → s ≡ (post_in l).setup → bad ≡ bad_setup s
-    → (ltb 7 lane || ltb 16 serial || ltb 128 logged || serials || ltb 0 spare || bad || not (eqb serial own)) ≡ bad_numbers (post_in l)
+    → posts ≡ (post_in l).posts → sources ≡ (post_in l).sources → dests ≡ (post_in l).dests → roles ≡ role_astray posts sources dests
+    → (ltb 7 lane || ltb 16 serial || ltb 128 logged || serials || roles || not (eqb serial own)) ≡ bad_numbers (post_in l)
 unfolding post_in part
-numbers_are l lane serial logged own spare s serials bad el es eg eo et ep eu eb = rw (eo, eb, et, ep, eu, el, es, eg)
+numbers_are l lane serial logged own posts sources dests serials roles el es eg eo et ep eu ed er = rw (eo, er, et, ep, eu, ed, el, es, eg)
 
 -- ---- all of it
 
@@ -34,23 +33,23 @@ numbers_are l lane serial logged own spare s serials bad el es eg eo et ep eu eb
 abbrev pub Judged : List ℕ → ℕ → List ℕ → Type 0
 Judged l r m = (r ≡ row_refusal l) × ((post_in m ≡ post_in l) × ((known_in m ≡ judged_known l) × (past_in m ≡ past_in l)))
 
-pub cut_short : (l : List ℕ) → length l < 545 → Judged l 12 l
+pub cut_short : (l : List ℕ) → length l < 543 → Judged l 12 l
 unfolding row_refusal judged_known
-cut_short l h = let e : leb 545 (length l) ≡ false = lt-leb 545 (length l) h in (rw e, (refl, (rw e, refl)))
+cut_short l h = let e : leb 543 (length l) ≡ false = lt-leb 543 (length l) h in (rw e, (refl, (rw e, refl)))
 
-row_bad : (l : List ℕ) → 545 ≤ length l → bad_record (post_in l) ≡ true → Judged l 12 l
+row_bad : (l : List ℕ) → 543 ≤ length l → bad_record (post_in l) ≡ true → Judged l 12 l
 unfolding row_refusal judged_known
-row_bad l h b = let e : leb 545 (length l) ≡ true = le-leb 545 (length l) h in (rw (e, b), (refl, (rw (e, b), refl)))
+row_bad l h b = let e : leb 543 (length l) ≡ true = le-leb 543 (length l) h in (rw (e, b), (refl, (rw (e, b), refl)))
 
 -- what the tests but that of the log's orders said of a row
 pub record Tested (l : List ℕ) (n : ℕ) (a b v : Bool) : Type 0 where
-  pub whole : 545 ≤ length l
+  pub whole : 543 ≤ length l
   pub some : n ≡ min (post_in l).logged 128
   pub numbers : a ≡ bad_numbers (post_in l)
   pub orders : b ≡ any_below (bad_order_in (take 8 (drop 6 l)) (take 128 (drop 158 l)) (take 128 (drop 286 l))) 128
   pub unused : v ≡ any_below (λ (k : ℕ). bad_unused_in (take 128 (drop 414 l)) (n + k)) (128 - n)
 
-pub tested : (l : List ℕ) (logged n : ℕ) (numbers orders unused : Bool) → 545 ≤ length l → logged ≡ (post_in l).logged → n ≡ min logged 128
+pub tested : (l : List ℕ) (logged n : ℕ) (numbers orders unused : Bool) → 543 ≤ length l → logged ≡ (post_in l).logged → n ≡ min logged 128
     → numbers ≡ bad_numbers (post_in l)
     → orders ≡ any_below (bad_order_in (take 8 (drop 6 l)) (take 128 (drop 158 l)) (take 128 (drop 286 l))) 128
     → unused ≡ any_below (λ (k : ℕ). bad_unused_in (take 128 (drop 414 l)) (n + k)) (128 - n)
@@ -91,7 +90,7 @@ pub all_good : (l m known : List ℕ) (n : ℕ) (numbers orders unused used : Bo
 unfolding row_refusal judged_known known_by_log post_in part
 all_good l m known n numbers orders unused used t b e u ek em km pm =
     let g : bad_record (post_in l) ≡ false = sym (bad_parts l n numbers orders unused used t e) ∙ rw u b in
-    let w : leb 545 (length l) ≡ true = le-leb 545 (length l) t.whole in
+    let w : leb 543 (length l) ≡ true = le-leb 543 (length l) t.whole in
     (rw (w, g), (em, (rw (km, ek, w, g, t.some), pm)))
 
 -- ---- what the log makes known is so

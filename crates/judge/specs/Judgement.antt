@@ -2,7 +2,7 @@
 -- The clock, the stamps, the words and the table hold 16 bits, and each of those numbers is in its range.
 use Rattle.std.specs.Prelude.{ℕ, Bool, cond, not, ◌&&◌, ◌||◌, ltb, leb, eqb, get_or}
 use Rattle.frame.specs.Lanes.{any_below}
-use Rattle.setup.specs.Setups.{bad_setup}
+use Rattle.cells.specs.Sets.{role_astray}
 use Rattle.post.specs.declared.Post.{Post}
 use Rattle.post.specs.Record.{last_of}
 use Rattle.deliver.specs.Delivery.{is_taken, stamp_at}
@@ -14,9 +14,13 @@ word_at p place = get_or p.words place 0
 abbrev pub logged_at : Post → ℕ → ℕ
 logged_at p k = get_or p.log k 0
 
--- "a number outside its range": lanes are 0 to 7, serials up to 16, a log has at most 128 orders, and the spare byte is 0
+-- "a number outside its range": lanes are 0 to 7, serials up to 16, and a log has at most 128 orders
 abbrev pub bad_number : Post → Bool
-bad_number p = ltb 7 p.lane || ltb 16 p.serial.0 || ltb 128 p.logged || any_below (λ (i : ℕ). ltb 16 (last_of p i)) 8 || ltb 0 p.spare
+bad_number p = ltb 7 p.lane || ltb 16 p.serial.0 || ltb 128 p.logged || any_below (λ (i : ℕ). ltb 16 (last_of p i)) 8
+
+-- "a role at a lane without a post"
+abbrev pub bad_role : Post → Bool
+bad_role p = role_astray p.posts p.sources p.dests
 
 -- "an own serial other than the last taken from its own lane"
 abbrev pub bad_own_serial : Post → Bool
@@ -48,9 +52,9 @@ bad_logged p k = (ltb k p.logged && (repeats p k || not_taken p k)) || (leb p.lo
 unfoldable pub bad_log : Post → Bool
 bad_log p = any_below (bad_logged p) 128
 
--- 12; `bad_setup` has "a role at a lane without a post", and K3's "A post's record holds its E, and refusal 12 covers it."
+-- 12
 unfoldable pub bad_record : Post → Bool
-bad_record p = bad_number p || bad_setup p.setup || bad_own_serial p || bad_orders p || bad_log p
+bad_record p = bad_number p || bad_role p || bad_own_serial p || bad_orders p || bad_log p
 
 -- the refusal of a record, or 0
 abbrev pub record_refusal : Post → ℕ

@@ -7,7 +7,7 @@ use Rattle.judge.specs.Judgement.{record_refusal}
 
 -- 12 of a row
 unfoldable pub row_refusal : List ℕ → ℕ
-row_refusal row = cond (leb 545 (length row)) (record_refusal (post_in row)) 12
+row_refusal row = cond (leb 543 (length row)) (record_refusal (post_in row)) 12
 
 -- what the log makes known to one who knew nothing: in turn, each order that is the next of its lane (`log_known` says that it is so)
 unfoldable pub known_by_log : Post → List ℕ

@@ -1,13 +1,12 @@
 -- The judgement's tests over numbers and single arrays: for the contracts of private functions. Assumes nothing.
 use Rattle.std.specs.Prelude.{ℕ, ◌+◌, ◌*◌, ◌/◌, ◌%◌, Bool, not, ◌&&◌, ◌||◌, List, ltb, leb, eqb, get_or}
 use Rattle.frame.specs.Lanes.{any_below}
-use Rattle.setup.specs.Setups.{bad_setup}
 use Rattle.post.specs.declared.Post.{Post}
-use Rattle.judge.specs.Judgement.{bad_number, bad_own_serial}
+use Rattle.judge.specs.Judgement.{bad_number, bad_role, bad_own_serial}
 
 -- the tests of numbers
 abbrev pub bad_numbers : Post → Bool
-bad_numbers p = bad_number p || bad_setup p.setup || bad_own_serial p
+bad_numbers p = bad_number p || bad_role p || bad_own_serial p
 
 abbrev pub taken_in : List ℕ → ℕ → Bool
 taken_in last place = ltb (place % 16) (get_or last (place / 16) 0)

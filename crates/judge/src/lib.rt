@@ -37,10 +37,9 @@ pub fn refusal(row: &mut [u16]) -> u8
     0
 }
 
-// A number outside its range, a role at a lane without a post, entries outside 1 to 8, or an own serial other than the
-// last taken from its lane.
+// A number outside its range, a role at a lane without a post, or an own serial other than the last taken from its lane.
 fn bad_numbers(row: &[u16]) -> bool
-    requires { 545 ≤ length row.now }
+    requires { 543 ≤ length row.now }
     ensures { result ≡ bad_numbers (post_in row.now) }
 {
     let numbers = row::read_numbers(row);
@@ -49,14 +48,8 @@ fn bad_numbers(row: &[u16]) -> bool
     let logged = numbers.logged;
     let own = row::get_in(row, row::LAST, 8, lane as usize);
     let last = bad_last(&row[6..14]);
-    let spare = numbers.spare;
-    let bad = setup::bad(
-        numbers.posts,
-        numbers.sources,
-        numbers.dests,
-        numbers.entries,
-    );
-    (7 < lane) | (16 < serial.0) | (128 < logged) | last | (0 < spare) | bad | !(serial.0 == own)
+    let roles = cells::role_astray(numbers.posts, numbers.sources, numbers.dests);
+    (7 < lane) | (16 < serial.0) | (128 < logged) | last | roles | !(serial.0 == own)
 }
 
 // A last serial over 16.

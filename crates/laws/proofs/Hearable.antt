@@ -11,8 +11,7 @@ use Rattle.frame.specs.declared.Entry.{Entry}
 use Rattle.frame.specs.declared.Frame.{Frame}
 use Rattle.post.specs.declared.Post.{Post}
 use Rattle.post.specs.Record.{is_post, is_source, last_of}
-use Rattle.steps.specs.Refusals.{not_in_yard, order_refusal, is_order, is_next, clock_passes, own_broadcast, strange_entries, strange, last_stamp, not_above, beyond_own, hear_refusal}
-use Rattle.post.specs.Newest.{has_stamp}
+use Rattle.steps.specs.Refusals.{not_in_yard, order_refusal, is_order, is_next, clock_passes, own_broadcast, has_stamp, strange_entries, strange, last_stamp, not_above, beyond_own, hear_refusal}
 use Rattle.steps.proofs.Passed.{order_passed, hear_passed}
 use Rattle.laws.proofs.TestLaws.{and_parts, and_made, and_second, and_fails, or_parts, or_made, none_each, each_none, goes_on_lem}
 
@@ -75,7 +74,7 @@ hearable p f z =
     let own : Entry = entry_of f p.lane in
     let a = hear_passed p f z in
     let late = and_second (is_next f last && is_source p p.lane) (leb 65535 (max p.clock.0 f.stamp.0)) a.1 in
-    let odd = or_parts (not (is_post p f.sender) || (is_order f && not (is_source p f.lane))) (strange_entries p.setup.sources f) a.3 in
+    let odd = or_parts (not (is_post p f.sender) || (is_order f && not (is_source p f.lane))) (strange_entries p.sources f) a.3 in
     let known = or_parts (not (is_post p f.sender)) (is_order f && not (is_source p f.lane)) odd.0 in
     let low = and_second (is_next f last && ltb 0 last) (leb f.stamp.0 (last_stamp p f)) a.4 in
     let far : Bool = ltb p.serial.0 own.serial.0 || ltb p.clock.0 own.stamp.0 in
@@ -105,7 +104,7 @@ hearable p f z =
 pub hear_not_refused : (p : Post) (f : Frame) → Hearable p f → hear_refusal p f ≡ 0
 unfolding hear_refusal strange_entries
 hear_not_refused p f h =
-    goes_on_lem (not_in_yard p.setup.posts p.lane) 21 _ (ap not h.here)
+    goes_on_lem (not_in_yard p.posts p.lane) 21 _ (ap not h.here)
     (goes_on_lem (clock_passes p f) 24 _ late
     (goes_on_lem (own_broadcast p f) 26 _ (ne_eqb f.sender p.lane h.other)
     (goes_on_lem (strange p f) 28 _ odd
@@ -125,7 +124,7 @@ hear_not_refused p f h =
 
     odd : strange p f ≡ false
     odd =
-        or_made (not (is_post p f.sender) || (is_order f && not (is_source p f.lane))) (strange_entries p.setup.sources f)
+        or_made (not (is_post p f.sender) || (is_order f && not (is_source p f.lane))) (strange_entries p.sources f)
         (or_made (not (is_post p f.sender)) (is_order f && not (is_source p f.lane)) (ap not h.sender)
         (and_fails (is_order f) (not (is_source p f.lane)) (λ t. ap not (h.source (eqb-true f.kind 1 t)))))
         (each_none (λ (i : ℕ). has_stamp (entry_of f i) && not (is_source p i)) 8

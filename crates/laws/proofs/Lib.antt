@@ -14,4 +14,3 @@ pub mod ValidSteps
 pub mod StepLaws
 pub mod Broadcasts
 pub mod LaneCounts
-pub mod Sending

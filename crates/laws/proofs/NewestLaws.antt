@@ -7,16 +7,15 @@ use Prim.Native.Nat.{ℕ, zero, suc, ◌<◌, ◌≤◌}
 use native.Mathlib.Omega.{arith}
 use lib.Dec.{ltb, leb, eqb}
 use lib.ListN.{length, get_or, get_or-eq_default}
-use borrow.Author.Tests.{ltb-true, leb-true, leb-false, le-ltb, ne_eqb, lt-ltb, eqb-true, eq-eqb}
+use borrow.Author.Tests.{ltb-true, leb-true, leb-false, le-ltb, ne_eqb, lt-ltb, eqb-true}
 use Rattle.frame.specs.Layout.{no_entry, entry_of}
 use Rattle.frame.specs.Types.{Typed}
 use Rattle.frame.specs.Refusals.{bad_entry, bad_entries, frame_refusal}
 use Rattle.frame.specs.declared.Entry.{Entry}
 use Rattle.frame.specs.declared.Frame.{Frame}
 use Rattle.cells.specs.Tables.{entry_place, stamp_under}
-use Rattle.cells.proofs.Lanes.{at_lane}
 use Rattle.post.specs.declared.Post.{Post}
-use Rattle.post.specs.Newest.{newer, newest_below, newest, entries_before, entry_sent, entries_sent, order_frame, beacon_frame}
+use Rattle.post.specs.Newest.{newer, newest_below, newest, newest_entries, order_frame, beacon_frame}
 use Rattle.laws.specs.Broadcasts.{IsNewest}
 use Rattle.laws.proofs.TestLaws.{same_or_not, below_or_not, and_parts, and_second, or_made, and_fails, each_none}
 
@@ -151,53 +150,45 @@ newest_good table lane =
 
 -- ---- the entries of a broadcast
 
--- the entry of a lane
-pub sent_entry : (p : Post) (lane : ℕ) → lane < 8 → get_or (entries_sent p) lane no_entry ≡ entry_sent p.setup.entries p.table p.lane lane
-unfolding entries_sent
-sent_entry p lane h = at_lane no_entry (entry_sent p.setup.entries p.table p.lane) lane h
-
--- what holds of every lane's newest entry and of none holds of what is sent
-pub sent_holds : (C : Entry → Type 0) (e : ℕ) (table : List ℕ) (own lane : ℕ) → C (newest table lane) → C no_entry → C (entry_sent e table own lane)
-unfolding entry_sent
-sent_holds C e table own lane h k = go (ltb (entries_before table own lane) e)
-  where
-    go : (t : Bool) → C (cond t (newest table lane) no_entry)
-    go true = h
-    go false = k
-
--- the own entry is among them, where any is
-pub own_sent_lem : (e : ℕ) (table : List ℕ) (own : ℕ) → 0 < e → entry_sent e table own own ≡ newest table own
-unfolding entry_sent entries_before
-own_sent_lem e table own h = rw (eq-eqb own own refl, lt-ltb 0 e h)
+-- the entry of a lane is its newest
+pub newest_entry : (table : List ℕ) (lane : ℕ) → lane < 8 → get_or (newest_entries table) lane no_entry ≡ newest table lane
+unfolding newest_entries
+newest_entry table zero h = refl
+newest_entry table (suc zero) h = refl
+newest_entry table (suc (suc zero)) h = refl
+newest_entry table (suc (suc (suc zero))) h = refl
+newest_entry table (suc (suc (suc (suc zero)))) h = refl
+newest_entry table (suc (suc (suc (suc (suc zero))))) h = refl
+newest_entry table (suc (suc (suc (suc (suc (suc zero)))))) h = refl
+newest_entry table (suc (suc (suc (suc (suc (suc (suc zero))))))) h = refl
+newest_entry table (suc (suc (suc (suc (suc (suc (suc (suc n)))))))) h = absurd (omega arith)
 
 -- a broadcast has eight entries
-sent_count_lem : (p : Post) → length (entries_sent p) ≡ 8
-unfolding entries_sent
-sent_count_lem p = refl
+newest_count : (table : List ℕ) → length (newest_entries table) ≡ 8
+unfolding newest_entries
+newest_count table = refl
 
 -- their stamps have 16 bits where the table's have
-sent_stamps : (p : Post) → ((j : ℕ) → get_or p.table j 0 < 65536) → (lane : ℕ) → (get_or (entries_sent p) lane no_entry).stamp.0 < 65536
-sent_stamps p h lane = go (below_or_not lane 8)
+newest_stamps : (table : List ℕ) → ((j : ℕ) → get_or table j 0 < 65536) → (lane : ℕ) → (get_or (newest_entries table) lane no_entry).stamp.0 < 65536
+newest_stamps table h lane = go (below_or_not lane 8)
   where
-    go : (lane < 8) ⊎ (8 ≤ lane) → (get_or (entries_sent p) lane no_entry).stamp.0 < 65536
-    go (inl l) = rw (sent_entry p lane l)
-        (sent_holds (λ (e : Entry). e.stamp.0 < 65536) p.setup.entries p.table p.lane lane (newest_under p.table lane 65536 (omega arith) h) (omega arith))
-    go (inr l) = rw (get_or-eq_default (entries_sent p) no_entry {n = lane} (rw sent_count_lem l)) (omega arith)
+    go : (lane < 8) ⊎ (8 ≤ lane) → (get_or (newest_entries table) lane no_entry).stamp.0 < 65536
+    go (inl l) = rw (newest_entry table lane l) (newest_under table lane 65536 (omega arith) h)
+    go (inr l) = rw (get_or-eq_default (newest_entries table) no_entry {n = lane} (rw newest_count l)) (omega arith)
 
 -- a frame with these entries is not turned down by 11
-sent_good : (f : Frame) (p : Post) → f.entries ≡ entries_sent p → bad_entries f ≡ false
+newest_bad : (f : Frame) (table : List ℕ) → f.entries ≡ newest_entries table → bad_entries f ≡ false
 unfolding bad_entries
-sent_good f p e =
+newest_bad f table e =
     each_none (λ (lane : ℕ). bad_entry (entry_of f lane)) 8
-    (λ lane l. rw (e, sent_entry p lane l)
-    (sent_holds (λ (x : Entry). bad_entry x ≡ false) p.setup.entries p.table p.lane lane (newest_good p.table lane) refl))
+    (λ lane l. rw (e, newest_entry table lane l) (newest_good table lane))
 
 -- ---- broadcasts can be written
 
 -- a beacon of a post with a lane up to 7 is not refused
 pub beacon_accepted : (p : Post) → p.lane < 8 → frame_refusal (beacon_frame p) ≡ 0
 unfolding frame_refusal
-beacon_accepted p h = rw (le-ltb 7 p.lane (omega arith), sent_good (beacon_frame p) p refl)
+beacon_accepted p h = rw (le-ltb 7 p.lane (omega arith), newest_bad (beacon_frame p) p.table refl)
 
 -- an order broadcast by a post with a lane up to 7, of a lane, serial and stamp in their ranges, is not refused
 pub order_accepted : (p : Post) (lane serial stamp word : ℕ) → p.lane < 8 → lane < 8 → 0 < serial → serial ≤ 16 → 0 < stamp
@@ -210,7 +201,7 @@ order_accepted p lane serial stamp word h l a b c =
       le-ltb 16 serial b,
       ne_eqb stamp 0 (λ e. omega arith),
       le-ltb 7 p.lane (omega arith),
-      sent_good (order_frame p lane serial stamp word) p refl,
+      newest_bad (order_frame p lane serial stamp word) p.table refl,
     )
 
 -- a beacon is a frame of its type
@@ -218,11 +209,11 @@ pub beacon_fits : (p : Post) → ((j : ℕ) → get_or p.table j 0 < 65536) → 
 beacon_fits p h = record {
   stamp = omega arith;
   word = omega arith;
-  count = sent_count_lem p;
-  stamps = sent_stamps p h;
+  count = newest_count p.table;
+  stamps = newest_stamps p.table h;
 }
 
 -- a broadcast order is a frame of its type
 pub order_fits : (p : Post) (lane serial stamp word : ℕ) → ((j : ℕ) → get_or p.table j 0 < 65536) → stamp < 65536 → word < 65536
     → Typed (order_frame p lane serial stamp word)
-order_fits p lane serial stamp word h s w = record { stamp = s; word = w; count = sent_count_lem p; stamps = sent_stamps p h }
+order_fits p lane serial stamp word h s w = record { stamp = s; word = w; count = newest_count p.table; stamps = newest_stamps p.table h }

@@ -6,12 +6,10 @@ use native.Mathlib.Omega.{arith}
 use lib.Dec.{ltb, leb, eqb}
 use borrow.Author.Tests.{ltb-true, ltb-false, lt-ltb, le-ltb, leb-true, le-leb, eqb-true, eqb-false, eq-eqb, ne_eqb, not-true, not-false}
 use Rattle.frame.specs.Lanes.{any_below}
-use Rattle.cells.specs.Sets.{role_astray}
-use Rattle.setup.specs.Setups.{entries_outside, bad_setup}
 use Rattle.post.specs.declared.Post.{Post}
 use Rattle.post.specs.Record.{is_post, is_source, is_dest, last_of}
 use Rattle.deliver.specs.Delivery.{is_taken, stamp_at}
-use Rattle.judge.specs.Judgement.{word_at, logged_at, bad_number, bad_own_serial, is_missing, kept_beyond, bad_orders, repeats, not_taken, bad_logged, bad_log, bad_record}
+use Rattle.judge.specs.Judgement.{word_at, logged_at, bad_number, bad_role, bad_own_serial, is_missing, kept_beyond, bad_orders, repeats, not_taken, bad_logged, bad_log, bad_record}
 pub use Rattle.laws.specs.Records.{Shaped, Valid}
 use Rattle.laws.proofs.TestLaws.{not_both, zero_of, above_zero, and_second, and_fails, or_parts, or_made, none_each, each_none}
 
@@ -35,18 +33,15 @@ role_made false false false h k = refl
 pub judged_valid : (p : Post) → bad_record p ≡ false → Valid p
 unfolding bad_record bad_orders bad_log
 judged_valid p e =
-    let a = or_parts (bad_number p || bad_setup p.setup || bad_own_serial p || bad_orders p) (bad_log p) e in
-    let b = or_parts (bad_number p || bad_setup p.setup || bad_own_serial p) (bad_orders p) a.0 in
-    let c = or_parts (bad_number p || bad_setup p.setup) (bad_own_serial p) b.0 in
-    let d = or_parts (bad_number p) (bad_setup p.setup) c.0 in
-    let r = or_parts (ltb 7 p.lane || ltb 16 p.serial.0 || ltb 128 p.logged || any_below (λ (i : ℕ). ltb 16 (last_of p i)) 8) (ltb 0 p.spare) d.0 in
-    let n = or_parts (ltb 7 p.lane || ltb 16 p.serial.0 || ltb 128 p.logged) (any_below (λ (i : ℕ). ltb 16 (last_of p i)) 8) r.0 in
+    let a = or_parts (bad_number p || bad_role p || bad_own_serial p || bad_orders p) (bad_log p) e in
+    let b = or_parts (bad_number p || bad_role p || bad_own_serial p) (bad_orders p) a.0 in
+    let c = or_parts (bad_number p || bad_role p) (bad_own_serial p) b.0 in
+    let d = or_parts (bad_number p) (bad_role p) c.0 in
+    let n = or_parts (ltb 7 p.lane || ltb 16 p.serial.0 || ltb 128 p.logged) (any_below (λ (i : ℕ). ltb 16 (last_of p i)) 8) d.0 in
     let m = or_parts (ltb 7 p.lane || ltb 16 p.serial.0) (ltb 128 p.logged) n.0 in
     let o = or_parts (ltb 7 p.lane) (ltb 16 p.serial.0) m.0 in
     let full : p.logged ≤ 128 = ltb-false 128 p.logged m.1 in
-    let x = or_parts (role_astray p.setup.posts p.setup.sources p.setup.dests) (entries_outside p.setup.entries) d.1 in
-    let role = none_each (λ (i : ℕ). (is_source p i || is_dest p i) && not (is_post p i)) 8 x.0 in
-    let few = or_parts (ltb p.setup.entries 1) (ltb 8 p.setup.entries) x.1 in
+    let role = none_each (λ (i : ℕ). (is_source p i || is_dest p i) && not (is_post p i)) 8 d.1 in
     let order = none_each (λ (place : ℕ). is_missing p place || kept_beyond p place) 128 b.1 in
     let entry = none_each (bad_logged p) 128 a.1 in
     record {
@@ -56,8 +51,6 @@ judged_valid p e =
       last = λ i l. ltb-false 16 (last_of p i) (none_each (λ (i : ℕ). ltb 16 (last_of p i)) 8 n.1 i l);
       sources = λ i l. (role_parts (is_source p i) (is_dest p i) (is_post p i) (role i l)).0;
       dests = λ i l. (role_parts (is_source p i) (is_dest p i) (is_post p i) (role i l)).1;
-      entries = (omega (arith, ltb-false p.setup.entries 1 few.0), ltb-false 8 p.setup.entries few.1);
-      spare = omega (arith, ltb-false 0 p.spare r.1);
       own = eqb-true p.serial.0 (last_of p p.lane) (not-false (eqb p.serial.0 (last_of p p.lane)) c.1);
       present = λ place l t.
           let x = or_parts (is_missing p place) (kept_beyond p place) (order place l) in
@@ -93,28 +86,23 @@ judged_valid p e =
 pub valid_judged : (p : Post) → Valid p → bad_record p ≡ false
 unfolding bad_record bad_orders bad_log
 valid_judged p v =
-    or_made (bad_number p || bad_setup p.setup || bad_own_serial p || bad_orders p) (bad_log p)
-    (or_made (bad_number p || bad_setup p.setup || bad_own_serial p) (bad_orders p)
-    (or_made (bad_number p || bad_setup p.setup) (bad_own_serial p)
-    (or_made (bad_number p) (bad_setup p.setup) number
-    (or_made (role_astray p.setup.posts p.setup.sources p.setup.dests) (entries_outside p.setup.entries)
+    or_made (bad_number p || bad_role p || bad_own_serial p || bad_orders p) (bad_log p)
+    (or_made (bad_number p || bad_role p || bad_own_serial p) (bad_orders p)
+    (or_made (bad_number p || bad_role p) (bad_own_serial p)
+    (or_made (bad_number p) (bad_role p) number
     (each_none (λ (i : ℕ). (is_source p i || is_dest p i) && not (is_post p i)) 8
-    (λ i l. role_made (is_source p i) (is_dest p i) (is_post p i) (v.sources i l) (v.dests i l)))
-    (or_made (ltb p.setup.entries 1) (ltb 8 p.setup.entries)
-    (le-ltb p.setup.entries 1 (omega (arith, v.entries))) (le-ltb 8 p.setup.entries (omega (arith, v.entries))))))
+    (λ i l. role_made (is_source p i) (is_dest p i) (is_post p i) (v.sources i l) (v.dests i l))))
     (ap not (eq-eqb p.serial.0 (last_of p p.lane) v.own)))
     (each_none (λ (place : ℕ). is_missing p place || kept_beyond p place) 128 order))
     (each_none (bad_logged p) 128 entry)
   where
     number : bad_number p ≡ false
     number =
-        or_made (ltb 7 p.lane || ltb 16 p.serial.0 || ltb 128 p.logged || any_below (λ (i : ℕ). ltb 16 (last_of p i)) 8) (ltb 0 p.spare)
-        (or_made (ltb 7 p.lane || ltb 16 p.serial.0 || ltb 128 p.logged) (any_below (λ (i : ℕ). ltb 16 (last_of p i)) 8)
+        or_made (ltb 7 p.lane || ltb 16 p.serial.0 || ltb 128 p.logged) (any_below (λ (i : ℕ). ltb 16 (last_of p i)) 8)
         (or_made (ltb 7 p.lane || ltb 16 p.serial.0) (ltb 128 p.logged)
         (or_made (ltb 7 p.lane) (ltb 16 p.serial.0) (le-ltb 7 p.lane (omega (arith, v.lane))) (le-ltb 16 p.serial.0 v.serial))
         (le-ltb 128 p.logged v.logged))
-        (each_none (λ (i : ℕ). ltb 16 (last_of p i)) 8 (λ i l. le-ltb 16 (last_of p i) (v.last i l))))
-        (le-ltb 0 p.spare (omega (arith, v.spare)))
+        (each_none (λ (i : ℕ). ltb 16 (last_of p i)) 8 (λ i l. le-ltb 16 (last_of p i) (v.last i l)))
 
     order : (place : ℕ) → place < 128 → (is_missing p place || kept_beyond p place) ≡ false
     order place l =

@@ -6,12 +6,11 @@ use native.Mathlib.Omega.{arith}
 use lib.Dec.{ltb, leb, eqb}
 use lib.ListN.{get_or, replicate, length-replicate}
 use borrow.Author.Tests.{le-ltb, eq-eqb}
-use Rattle.setup.specs.declared.Setup.{Setup}
-use Rattle.setup.specs.Setups.{EightBits, bad_setup}
+use Rattle.cells.specs.Sets.{role_astray}
 use Rattle.post.specs.declared.Post.{Post}
 use Rattle.post.specs.Record.{last_of, fresh_post}
 use Rattle.deliver.specs.Delivery.{is_taken, stamp_at}
-use Rattle.judge.specs.Judgement.{word_at, logged_at, bad_number, bad_own_serial, is_missing, kept_beyond, bad_orders, repeats, not_taken, bad_logged, bad_log, bad_record}
+use Rattle.judge.specs.Judgement.{word_at, logged_at, bad_number, bad_role, bad_own_serial, is_missing, kept_beyond, bad_orders, repeats, not_taken, bad_logged, bad_log, bad_record}
 use Rattle.laws.proofs.TestLaws.{or_made, and_fails, each_none}
 use Rattle.laws.proofs.Valid.{Shaped, Valid, judged_valid}
 
@@ -34,13 +33,12 @@ pub record Blank (p : Post) : Type 0 where
   pub stamps : (place : ℕ) → stamp_at p place ≡ 0
   pub words : (place : ℕ) → word_at p place ≡ 0
   pub log : (k : ℕ) → logged_at p k ≡ 0
-  pub spare : p.spare ≡ 0
 
 -- of its numbers only the lane can be out of range
 blank_number : (p : Post) → Blank p → bad_number p ≡ ltb 7 p.lane
 blank_number p b =
-    rw (b.serial, b.logged, b.spare, each_none (λ (i : ℕ). ltb 16 (last_of p i)) 8 (λ i l. le-ltb 16 (last_of p i) (omega (arith, b.last i))))
-    (or-false (ltb 7 p.lane || false || false || false) ∙ or-false (ltb 7 p.lane || false || false) ∙ or-false (ltb 7 p.lane || false) ∙ or-false (ltb 7 p.lane))
+    rw (b.serial, b.logged, each_none (λ (i : ℕ). ltb 16 (last_of p i)) 8 (λ i l. le-ltb 16 (last_of p i) (omega (arith, b.last i))))
+    (or-false (ltb 7 p.lane || false || false) ∙ or-false (ltb 7 p.lane || false) ∙ or-false (ltb 7 p.lane))
 
 -- its own serial is the last taken
 blank_own : (p : Post) → Blank p → bad_own_serial p ≡ false
@@ -66,19 +64,19 @@ blank_log p b =
     (rw (le-ltb k p.logged (omega (arith, b.logged))))
     (and_fails (leb p.logged k) (not (eqb (logged_at p k) 0)) (λ t. rw (b.log k))))
 
--- it is turned down only for its lane, its roles and its entries
-pub blank_judged : (p : Post) → Blank p → bad_record p ≡ (ltb 7 p.lane || bad_setup p.setup)
+-- it is turned down only for its lane and roles
+pub blank_judged : (p : Post) → Blank p → bad_record p ≡ (ltb 7 p.lane || bad_role p)
 unfolding bad_record
 blank_judged p b =
-    ap (λ (x : Bool). x || bad_setup p.setup || bad_own_serial p || bad_orders p || bad_log p) (blank_number p b)
-    ∙ drops (ltb 7 p.lane || bad_setup p.setup) (bad_own_serial p) (bad_orders p) (bad_log p) (blank_own p b) (blank_orders p b) (blank_log p b)
+    ap (λ (x : Bool). x || bad_role p || bad_own_serial p || bad_orders p || bad_log p) (blank_number p b)
+    ∙ drops (ltb 7 p.lane || bad_role p) (bad_own_serial p) (bad_orders p) (bad_log p) (blank_own p b) (blank_orders p b) (blank_log p b)
   where
     drops : (a x y z : Bool) → x ≡ false → y ≡ false → z ≡ false → (a || x || y || z) ≡ a
     drops a x y z e f g = rw (e, f, g) (or-false (a || false || false) ∙ or-false (a || false) ∙ or-false a)
 
-module _ (lane : ℕ) (s : Setup) where
+module _ (lane posts sources dests : ℕ) where
   -- in a fresh post nothing has happened
-  pub fresh_blank : Blank (fresh_post lane s)
+  pub fresh_blank : Blank (fresh_post lane posts sources dests)
   fresh_blank = record {
     serial = refl;
     logged = refl;
@@ -86,16 +84,15 @@ module _ (lane : ℕ) (s : Setup) where
     stamps = λ place. zeros 128 place;
     words = λ place. zeros 128 place;
     log = λ k. zeros 128 k;
-    spare = refl;
   }
 
-  -- a fresh post is turned down for a lane over 7, a role at a lane without a post, or entries outside 1 to 8, and for nothing else
-  pub fresh_judged : bad_record (fresh_post lane s) ≡ (ltb 7 lane || bad_setup s)
-  fresh_judged = blank_judged (fresh_post lane s) fresh_blank
+  -- a fresh post is turned down for a lane over 7, or a role at a lane without a post, and for nothing else
+  pub fresh_judged : bad_record (fresh_post lane posts sources dests) ≡ (ltb 7 lane || role_astray posts sources dests)
+  fresh_judged = blank_judged (fresh_post lane posts sources dests) fresh_blank
 
   -- and it is a record of its type
-  pub fresh_shaped : EightBits s → Shaped (fresh_post lane s)
-  fresh_shaped a = record {
+  pub fresh_shaped : posts < 256 → sources < 256 → dests < 256 → Shaped (fresh_post lane posts sources dests)
+  fresh_shaped a b c = record {
     last = length-replicate {A = ℕ} 8 0;
     table = length-replicate {A = ℕ} 136 0;
     stamps = length-replicate {A = ℕ} 128 0;
@@ -105,14 +102,16 @@ module _ (lane : ℕ) (s : Setup) where
     stamp_values = λ i. rw (zeros 128 i) (omega arith);
     word_values = λ i. rw (zeros 128 i) (omega arith);
     clock = omega arith;
-    setup = a;
+    posts = a;
+    sources = b;
+    dests = c;
   }
 
-  -- with a lane up to 7 and a setup that is not turned down it is valid
-  pub fresh_valid : lane < 8 → bad_setup s ≡ false
-      → Valid (fresh_post lane s)
+  -- with a lane up to 7 and roles at posts it is valid
+  pub fresh_valid : lane < 8 → role_astray posts sources dests ≡ false
+      → Valid (fresh_post lane posts sources dests)
   fresh_valid h e =
-      judged_valid (fresh_post lane s)
+      judged_valid (fresh_post lane posts sources dests)
       (fresh_judged
-      ∙ or_made (ltb 7 lane) (bad_setup s)
+      ∙ or_made (ltb 7 lane) (role_astray posts sources dests)
       (le-ltb 7 lane (omega arith)) e)

@@ -110,7 +110,9 @@ log_shaped p log logged l s = record {
   stamp_values = s.stamp_values;
   word_values = s.word_values;
   clock = s.clock;
-  setup = s.setup;
+  posts = s.posts;
+  sources = s.sources;
+  dests = s.dests;
 }
 
 -- a valid record with another log of taken orders, none twice, and zeros past its end, is valid
@@ -125,8 +127,6 @@ log_valid p log logged b l once all rest v = record {
   last = v.last;
   sources = v.sources;
   dests = v.dests;
-  entries = v.entries;
-  spare = v.spare;
   own = v.own;
   present = v.present;
   beyond = v.beyond;

@@ -35,7 +35,9 @@ clock_shaped p clock serial table c l h s = record {
   stamp_values = s.stamp_values;
   word_values = s.word_values;
   clock = c;
-  setup = s.setup;
+  posts = s.posts;
+  sources = s.sources;
+  dests = s.dests;
 }
 
 -- refusal 12 looks neither at the clock nor at the table
@@ -47,8 +49,6 @@ clock_valid p clock table v = record {
   last = v.last;
   sources = v.sources;
   dests = v.dests;
-  entries = v.entries;
-  spare = v.spare;
   own = v.own;
   present = v.present;
   beyond = v.beyond;
@@ -73,7 +73,9 @@ kept_shaped p q n stamp word a b s = record {
   stamp_values = set_below p.stamps (order_place q n) stamp 65536 a s.stamp_values;
   word_values = set_below p.words (order_place q n) word 65536 b s.word_values;
   clock = s.clock;
-  setup = s.setup;
+  posts = s.posts;
+  sources = s.sources;
+  dests = s.dests;
 }
 
 module _ (p : Post) (q n stamp word : ℕ) (s : length p.last ≡ 8) (h : q < 8) (next : n ≡ last_of p q + 1) where
@@ -113,8 +115,6 @@ kept_valid p clock serial table q n stamp word s v h next b c d e f = record {
   last = λ i l. few i l (same_or_not i q);
   sources = v.sources;
   dests = v.dests;
-  entries = v.entries;
-  spare = v.spare;
   own = own (same_or_not p.lane q);
   present = λ place l t. present place l t (same_or_not place (order_place q n));
   beyond = λ place l t. beyond place l t (same_or_not place (order_place q n));

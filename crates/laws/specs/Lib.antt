@@ -2,4 +2,3 @@ pub mod Lists
 pub mod Records
 pub mod LogAfter
 pub mod Broadcasts
-pub mod Sending

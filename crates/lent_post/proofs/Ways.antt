@@ -5,7 +5,6 @@ use mathlib.Core.List.{List}
 use Prim.Native.Nat.{ℕ}
 use lib.Dec.{eqb}
 use borrow.Author.Tests.{ne_eqb, eqb-true}
-use Rattle.setup.specs.declared.Setup.{Setup}
 use Rattle.post.specs.declared.Post.{Post}
 use Rattle.single.specs.declared.FreshPost.{FreshPost}
 use Rattle.single.specs.declared.Ordered.{Ordered}
@@ -17,26 +16,26 @@ use Rattle.told.specs.Told.{order_told, hear_told}
 use Rattle.lent_post.specs.Lent.{fresh_kept, lent_fresh, lent_order, lent_hear}
 
 -- the number that `single::fresh` gives is the refusal's
-fresh_number : (lane : ℕ) (s : Setup) → (fresh_singly lane s).refusal ≡ fresh_refusal lane s
+fresh_number : (lane posts sources dests : ℕ) → (fresh_singly lane posts sources dests).refusal ≡ fresh_refusal lane posts sources dests
 unfolding fresh_singly
-fresh_number lane s = go (eqb (fresh_refusal lane s) 0) refl
+fresh_number lane posts sources dests = go (eqb (fresh_refusal lane posts sources dests) 0) refl
   where
-    go : (b : Bool) → eqb (fresh_refusal lane s) 0 ≡ b → (fresh_singly lane s).refusal ≡ fresh_refusal lane s
+    go : (b : Bool) → eqb (fresh_refusal lane posts sources dests) 0 ≡ b → (fresh_singly lane posts sources dests).refusal ≡ fresh_refusal lane posts sources dests
     go true e = rw e (sym (eqb-true _ 0 e))
     go false e = rw e
 
-pub fresh_made : (p : Post) (lane : ℕ) (s : Setup) (f : FreshPost) → f ≡ fresh_singly lane s → f.refusal ≡ 0
-    → ◌≡◌ {A = Made} (record { refusal = 0; post = f.post }) (lent_fresh p lane s)
+pub fresh_made : (p : Post) (lane posts sources dests : ℕ) (f : FreshPost) → f ≡ fresh_singly lane posts sources dests → f.refusal ≡ 0
+    → ◌≡◌ {A = Made} (record { refusal = 0; post = f.post }) (lent_fresh p lane posts sources dests)
 unfolding fresh_singly fresh_kept
-fresh_made p lane s f e z =
-    let n : fresh_refusal lane s ≡ 0 = sym (fresh_number lane s) ∙ (ap (λ (g : FreshPost). g.refusal) (sym e) ∙ z) in
+fresh_made p lane posts sources dests f e z =
+    let n : fresh_refusal lane posts sources dests ≡ 0 = sym (fresh_number lane posts sources dests) ∙ (ap (λ (g : FreshPost). g.refusal) (sym e) ∙ z) in
     rw (e, n)
 
-pub fresh_refused : (p : Post) (lane : ℕ) (s : Setup) (f : FreshPost) → f ≡ fresh_singly lane s → (f.refusal ≡ 0 → ⊥)
-    → ◌≡◌ {A = Made} (record { refusal = f.refusal; post = p }) (lent_fresh p lane s)
+pub fresh_refused : (p : Post) (lane posts sources dests : ℕ) (f : FreshPost) → f ≡ fresh_singly lane posts sources dests → (f.refusal ≡ 0 → ⊥)
+    → ◌≡◌ {A = Made} (record { refusal = f.refusal; post = p }) (lent_fresh p lane posts sources dests)
 unfolding fresh_kept
-fresh_refused p lane s f e z =
-    let n : f.refusal ≡ fresh_refusal lane s = ap (λ (g : FreshPost). g.refusal) e ∙ fresh_number lane s in
+fresh_refused p lane posts sources dests f e z =
+    let n : f.refusal ≡ fresh_refusal lane posts sources dests = ap (λ (g : FreshPost). g.refusal) e ∙ fresh_number lane posts sources dests in
     rw (← n, ne_eqb f.refusal 0 z)
 
 pub order_told_lem : (p : Post) (word : ℕ) (buffer : List ℕ) (d : Ordered) (n : ℕ) → d ≡ order_singly p word buffer → n ≡ order_told d.answer

@@ -1,7 +1,6 @@
 -- A post's record lent by the host, who finds it brought up to date: the steps of a post run singly, with the answer as one
 -- number. Assumes nothing.
 use Rattle.std.specs.Prelude.{ℕ, cond, List, eqb}
-use Rattle.setup.specs.declared.Setup.{Setup}
 use Rattle.post.specs.declared.Post.{Post}
 use Rattle.post.specs.Record.{fresh_post}
 use Rattle.single.specs.Single.{fresh_refusal, order_singly, hear_singly}
@@ -9,17 +8,13 @@ use Rattle.lent_post.specs.declared.Made.{Made}
 use Rattle.lent_post.specs.declared.Stepped.{Stepped}
 use Rattle.told.specs.Told.{order_told, hear_told}
 
--- what line 1 says of a yard, handed in as four numbers
-abbrev pub setup_of : ℕ → ℕ → ℕ → ℕ → Setup
-setup_of posts sources dests entries = record { posts = posts; sources = sources; dests = dests; entries = entries }
-
 -- the record after a fresh post was asked for: a refusal (12, 21) leaves it
-unfoldable pub fresh_kept : Post → ℕ → Setup → Post
-fresh_kept p lane setup = cond (eqb (fresh_refusal lane setup) 0) (fresh_post lane setup) p
+unfoldable pub fresh_kept : Post → ℕ → ℕ → ℕ → ℕ → Post
+fresh_kept p lane posts sources dests = cond (eqb (fresh_refusal lane posts sources dests) 0) (fresh_post lane posts sources dests) p
 
 -- what the functions by value hand to those that store the record
-abbrev pub lent_fresh : Post → ℕ → Setup → Made
-lent_fresh p lane setup = record { refusal = fresh_refusal lane setup; post = fresh_kept p lane setup }
+abbrev pub lent_fresh : Post → ℕ → ℕ → ℕ → ℕ → Made
+lent_fresh p lane posts sources dests = record { refusal = fresh_refusal lane posts sources dests; post = fresh_kept p lane posts sources dests }
 
 abbrev pub lent_order : Post → ℕ → List ℕ → Stepped
 lent_order p word buffer = record { answer = order_told (order_singly p word buffer).answer; post = (order_singly p word buffer).post }

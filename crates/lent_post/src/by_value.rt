@@ -2,24 +2,17 @@
 ghost use Rattle.std.specs.Prelude.{◌≡◌};
 ghost use Rattle.steps.specs.Answers.{beacon_number};
 ghost use Rattle.single.specs.Single.{order_buffer, hear_buffer, beacon_refusal_singly, beacon_buffer};
-ghost use Rattle.lent_post.specs.Lent.{setup_of, lent_fresh, lent_order, lent_hear};
+ghost use Rattle.lent_post.specs.Lent.{lent_fresh, lent_order, lent_hear};
 
 use crate::{Made, Stepped};
 use post::Post;
-use setup::Setup;
 use steps::BeaconAnswer;
 
 // A fresh post, or the refusal (12, 21) and the post as it was.
-pub(crate) fn fresh(p: Post, lane: u8, posts: u8, sources: u8, dests: u8, entries: u8) -> Made
-    ensures { result ≡ lent_fresh p lane (setup_of posts sources dests entries) }
+pub(crate) fn fresh(p: Post, lane: u8, posts: u8, sources: u8, dests: u8) -> Made
+    ensures { result ≡ lent_fresh p lane posts sources dests }
 {
-    let setup = Setup {
-        posts: posts,
-        sources: sources,
-        dests: dests,
-        entries: entries,
-    };
-    let asked = single::fresh(lane, setup);
+    let asked = single::fresh(lane, posts, sources, dests);
     let post = asked.post;
     if asked.refusal == 0 {
         Made {

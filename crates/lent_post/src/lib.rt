@@ -6,7 +6,7 @@ mod by_value;
 ghost use Rattle.std.specs.Prelude.{◌≡◌};
 ghost use Rattle.single.specs.Single.{fresh_refusal, order_singly, order_buffer, hear_singly, hear_buffer, beacon_refusal_singly, beacon_buffer};
 ghost use Rattle.told.specs.Told.{order_told, hear_told};
-ghost use Rattle.lent_post.specs.Lent.{setup_of, fresh_kept};
+ghost use Rattle.lent_post.specs.Lent.{fresh_kept};
 
 use post::Post;
 
@@ -24,21 +24,13 @@ pub(crate) struct Stepped {
     pub post: Post,
 }
 
-// Makes the record a fresh post by lane and what line 1 says of its yard: 0, or the refusal (12, 21) with the record as it was.
+// Makes the record a fresh post by lane and roles: 0, or the refusal (12, 21) with the record as it was.
 #[unsafe(no_mangle)]
-pub extern "C" fn drift_post_fresh(
-    p: &mut Post,
-    lane: u8,
-    posts: u8,
-    sources: u8,
-    dests: u8,
-    entries: u8,
-) -> u8
-    ensures { (result ≡ fresh_refusal lane (setup_of posts sources dests entries))
-        × (p.new ≡ fresh_kept p.old lane (setup_of posts sources dests entries)) }
+pub extern "C" fn drift_post_fresh(p: &mut Post, lane: u8, posts: u8, sources: u8, dests: u8) -> u8
+    ensures { (result ≡ fresh_refusal lane posts sources dests) × (p.new ≡ fresh_kept p.old lane posts sources dests) }
 {
     let before = *p;
-    let after = by_value::fresh(before, lane, posts, sources, dests, entries);
+    let after = by_value::fresh(before, lane, posts, sources, dests);
     *p = after.post;
     after.refusal
 }

@@ -1,5 +1,5 @@
--- The forms of a script's lines: document 01, "Script and printout", and document 02, K3. Assumes nothing.
-use Rattle.std.specs.Prelude.{ℕ, zero, suc, ◌^◌, Bool, true, cond, not, ◌&&◌, ◌||◌, List, [], ◌∷◌, ltb, eqb, length}
+-- The forms of a script's lines: document 01, "Script and printout". Assumes nothing.
+use Rattle.std.specs.Prelude.{ℕ, zero, suc, ◌^◌, true, cond, ◌&&◌, ◌||◌, List, [], ◌∷◌, ltb, eqb, length}
 use Rattle.std.specs.Int.Bits.{bit_or}
 use Rattle.text.specs.Bytes.{bytes}
 use Rattle.scan.specs.declared.Scan.{Scan}
@@ -41,7 +41,7 @@ read_items s (i ∷ is) c = read_items s is (read_item s i c)
 abbrev pub read_form : List ℕ → List Item → ℕ → Scan
 read_form s form at = read_items s form (start_at at)
 
--- ---- the yard: `(yard (0 both) (2 relay))` and a line feed, with any number of posts, and with or without `(entries 3)` as its last item
+-- ---- the yard: `(yard (0 both) (2 relay))` and a line feed, with any number of posts
 
 -- a role is read as a number: 0 relay, 1 source, 2 dest, 3 both
 abbrev pub as_role : Scan → ℕ → Scan → Scan
@@ -76,47 +76,26 @@ post_added y c = record {
   sources = bit_or y.sources (cond (eqb c.latest 1 || eqb c.latest 3) (bit_of c.earlier) 0);
   dests = bit_or y.dests (cond (eqb c.latest 2 || eqb c.latest 3) (bit_of c.earlier) 0);
   rising = y.rising && ltb y.posts (bit_of c.earlier);
-  entries = y.entries;
 }
-
--- the last item begins there
-abbrev pub entries_begin : List ℕ → ℕ → Bool
-entries_begin s at = stands s at (bytes " (entries ")
-
--- a post more begins there: an item that is not the last
-unfoldable pub post_begins : List ℕ → ℕ → Bool
-post_begins s at = stands s at (bytes " (") && not (entries_begin s at)
 
 -- the posts from there on, as long as one begins; n is above their number
 unfoldable pub posts_read : List ℕ → YardScan → ℕ → YardScan
 posts_read s y zero = y
-posts_read s y (suc n) = cond (y.ok && post_begins s y.at) (posts_read s (post_added y (read_post s y.at)) n) y
+posts_read s y (suc n) = cond (y.ok && stands s y.at (bytes " (")) (posts_read s (post_added y (read_post s y.at)) n) y
 
--- before the first post, after `(yard`: "with 8 when it is missing"
+-- before the first post, after `(yard`
 abbrev pub no_posts : Scan → YardScan
-no_posts c = record { ok = c.ok; at = c.at; posts = 0; sources = 0; dests = 0; rising = true; entries = 8 }
+no_posts c = record { ok = c.ok; at = c.at; posts = 0; sources = 0; dests = 0; rising = true }
 
 abbrev pub scan_of : YardScan → Scan
 scan_of y = record { ok = y.ok; at = y.at; earlier = 0; latest = 0 }
 
--- a yard read further, with this number of entries
-abbrev pub read_on : YardScan → Scan → ℕ → YardScan
-read_on y c entries =
-    record { ok = c.ok; at = c.at; posts = y.posts; sources = y.sources; dests = y.dests; rising = y.rising; entries = entries }
+-- after the last, with `)` and a line feed
+abbrev pub ended : YardScan → Scan → YardScan
+ended y c = record { ok = c.ok; at = c.at; posts = y.posts; sources = y.sources; dests = y.dests; rising = y.rising }
 
 abbrev pub yard_posts : List ℕ → ℕ → YardScan
 yard_posts s at = posts_read s (no_posts (read_text s (bytes "(yard") (start_at at))) (length s)
 
--- ` (entries E)`, "an optional last item"
-abbrev pub entries_form : List Item
-entries_form = text (bytes " (entries ") ∷ number ∷ text (bytes ")") ∷ []
-
-unfoldable pub entries_read : List ℕ → YardScan → YardScan
-entries_read s y = let c = read_items s entries_form (scan_of y) in cond (entries_begin s y.at) (read_on y c c.latest) y
-
--- `)` and a line feed end the line
-unfoldable pub yard_ended : List ℕ → YardScan → YardScan
-yard_ended s y = read_on y (read_text s (bytes ")\n") (scan_of y)) y.entries
-
 unfoldable pub read_yard : List ℕ → ℕ → YardScan
-read_yard s at = yard_ended s (entries_read s (yard_posts s at))
+read_yard s at = ended (yard_posts s at) (read_text s (bytes ")\n") (scan_of (yard_posts s at)))

@@ -1,4 +1,3 @@
 pub mod Forms
 pub mod Lines
 pub mod Values
-pub mod Examples

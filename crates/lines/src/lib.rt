@@ -1,9 +1,9 @@
-// A script's lines as they are read. specs/ defines the forms, how they are read, and refusals 1 to 5 and 33; the crate
-// `reader` reads.
-use setup::Setup;
+// A script's lines as they are read. specs/ defines the forms, how they are read, and refusals 1 to 5; the crate `reader` reads.
+ghost use Rattle.std.specs.Prelude.{◌≡◌};
+ghost use Rattle.lines.specs.Lines.{number_of, next_of};
 
-// How far a yard line was read: its posts, sources and destinations so far as sets of eight bits, whether its lanes rise and
-// are at most 7, and its entries.
+// How far a yard line was read: its posts, sources and destinations so far as sets of eight bits, and whether its lanes
+// rise and are at most 7.
 #[derive(Drop)]
 pub struct YardScan {
     pub ok: bool,
@@ -12,34 +12,35 @@ pub struct YardScan {
     pub sources: u8,
     pub dests: u8,
     pub rising: bool,
-    pub entries: u32,
 }
 
-// The step that a line asks for.
+// A line as it was read, with the place of the line after it, or the number that it is refused by (2 to 5).
 #[derive(Drop)]
-pub enum Asked {
-    Order { lane: u8, word: u16 },
-    Hear { lane: u8, frame: u32 },
-    Beacon { lane: u8 },
-    Roll,
-    Nothing,
-}
-
-// A line after the first: the number that it is refused by, or 0; the place where the next line begins, for a refused line the
-// end of the script; and the step, none for a refused line.
-#[derive(Drop)]
-pub struct Line {
-    pub refusal: u8,
-    pub next: usize,
-    pub step: Asked,
-}
-
-// Line 1 in the same way, with what it says of the yard.
-#[derive(Drop)]
-pub struct FirstLine {
-    pub refusal: u8,
-    pub next: usize,
-    pub setup: Setup,
+pub enum Line {
+    Yard {
+        posts: u8,
+        sources: u8,
+        dests: u8,
+        next: usize,
+    },
+    Order {
+        lane: u8,
+        word: u16,
+        next: usize,
+    },
+    Hear {
+        lane: u8,
+        frame: u32,
+        next: usize,
+    },
+    Beacon {
+        lane: u8,
+        next: usize,
+    },
+    Roll {
+        next: usize,
+    },
+    Refused(u8),
 }
 
 // The first refused line and its number; number 0 for a script that is not refused, beside how many lines it has.
@@ -51,3 +52,57 @@ pub struct Judged {
 
 // The longest script, in bytes.
 pub const LONGEST: usize = 48000;
+
+// The number that a line is refused by, or 0.
+pub fn number_of(l: Line) -> u8
+    ensures { result ≡ number_of l }
+{
+    match l {
+        Line::Yard {
+            posts: _,
+            sources: _,
+            dests: _,
+            next: _,
+        } => 0,
+        Line::Order {
+            lane: _,
+            word: _,
+            next: _,
+        } => 0,
+        Line::Hear {
+            lane: _,
+            frame: _,
+            next: _,
+        } => 0,
+        Line::Beacon { lane: _, next: _ } => 0,
+        Line::Roll { next: _ } => 0,
+        Line::Refused(number) => number,
+    }
+}
+
+// The place of the line after a line; nothing is read after a refused one.
+pub fn next_of(s: &[u8], l: Line) -> usize
+    ensures { result ≡ next_of s.now l }
+{
+    match l {
+        Line::Yard {
+            posts: _,
+            sources: _,
+            dests: _,
+            next,
+        } => next,
+        Line::Order {
+            lane: _,
+            word: _,
+            next,
+        } => next,
+        Line::Hear {
+            lane: _,
+            frame: _,
+            next,
+        } => next,
+        Line::Beacon { lane: _, next } => next,
+        Line::Roll { next } => next,
+        Line::Refused(_) => s.len(),
+    }
+}

@@ -1,26 +1,33 @@
 -- What a script prints and what it leaves on the air: document 01, "Script and printout". Assumes nothing.
-use Rattle.std.specs.Prelude.{ℕ, ◌+◌, cond, not, List, [], ◌∷◌, ◌++◌, eqb}
+use Rattle.std.specs.Prelude.{ℕ, ◌+◌, cond, not, List, [], ◌∷◌, ◌++◌, eqb, length}
 use Rattle.text.specs.Decimal.{given}
-use Rattle.lines.specs.declared.Asked.{Asked}
-use Rattle.lines.specs.declared.Asked.TheVariants.{Order, Hear, Beacon, Roll, Nothing}
 use Rattle.lines.specs.declared.Line.{Line}
-use Rattle.lines.specs.Lines.{first_line, later_lines, judged}
+use Rattle.lines.specs.declared.Line.TheVariants.{Yard, Order, Hear, Beacon, Roll, Refused}
+use Rattle.lines.specs.Lines.{line_at, next_of, lines_from, judged}
+use Rattle.state.specs.Yards as yards
 use Rattle.state.specs.Yards.{yard_made}
 use Rattle.yard.specs.Worlds.{World, order, hear, beacon}
 use Rattle.roll.specs.Runs.{Step, one, roll, answer, run}
 use Rattle.roll.specs.Answers.{answer_number}
 use Rattle.meaning.specs.Texts.{bad_text, refused_text, posts_text}
 
--- the step that a line asks for; a refused line asks for none
-abbrev pub step_asked : Asked → List Step
-step_asked (Order lane word) = one (order lane word) ∷ []
-step_asked (Hear lane frame) = one (hear lane frame) ∷ []
-step_asked (Beacon lane) = one (beacon lane) ∷ []
-step_asked Roll = roll ∷ []
-step_asked Nothing = []
-
+-- the step that a line asks for; the yard line asks for none
 abbrev pub step_of : Line → List Step
-step_of l = step_asked l.step
+step_of (Yard posts sources dests next) = []
+step_of (Order lane word next) = one (order lane word) ∷ []
+step_of (Hear lane frame next) = one (hear lane frame) ∷ []
+step_of (Beacon lane next) = one (beacon lane) ∷ []
+step_of (Roll next) = roll ∷ []
+step_of (Refused number) = []
+
+-- the fresh yard that line 1 asks for
+abbrev pub yard_of : Line → yards.Yard
+yard_of (Yard posts sources dests next) = (yard_made posts sources dests).yard
+yard_of (Order lane word next) = (yard_made 0 0 0).yard
+yard_of (Hear lane frame next) = (yard_made 0 0 0).yard
+yard_of (Beacon lane next) = (yard_made 0 0 0).yard
+yard_of (Roll next) = (yard_made 0 0 0).yard
+yard_of (Refused number) = (yard_made 0 0 0).yard
 
 -- the number that a step is refused by, or 0; where there is no step, nothing is refused
 abbrev pub refusal_of : World → List Step → ℕ
@@ -42,18 +49,21 @@ refused_lines w n (l ∷ ls) =
 -- ---- a script that is not refused: line 1 makes the yard, the lines after it are its steps
 
 abbrev pub script_start : List ℕ → List ℕ → World
-script_start s air = record { yard = (yard_made (first_line s).setup).yard; air = air }
+script_start s air = record { yard = yard_of (line_at s 0); air = air }
+
+abbrev pub step_lines : List ℕ → List Line
+step_lines s = lines_from s (next_of s (line_at s 0)) (length s)
 
 unfoldable pub script_world : List ℕ → List ℕ → World
-script_world s air = world_after (script_start s air) (later_lines s)
+script_world s air = world_after (script_start s air) (step_lines s)
 
 -- "all steps run; each refused one prints ..; then the posts print a line each"
 unfoldable pub script_text : List ℕ → List ℕ → List ℕ
-script_text s air = refused_lines (script_start s air) 1 (later_lines s) ++ posts_text (script_world s air).yard 8
+script_text s air = refused_lines (script_start s air) 1 (step_lines s) ++ posts_text (script_world s air).yard 8
 
 -- ---- any script
 
--- "A script refused by 1–5 prints only `(bad LINE NUMBER)` for its first bad line"; K3, 33 "counts .. with 1 to 5 for a script"
+-- "A script refused by 1–5 prints only `(bad LINE NUMBER)` for its first bad line"
 unfoldable pub printout : List ℕ → List ℕ → List ℕ
 printout s air = cond (eqb (judged s).number 0) (script_text s air) (bad_text (judged s).line (judged s).number)
 

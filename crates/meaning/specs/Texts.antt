@@ -41,4 +41,4 @@ post_text lane p =
 -- "the posts print a line each in rising lane order": those below lane k
 unfoldable pub posts_text : Yard → ℕ → List ℕ
 posts_text y zero = []
-posts_text y (suc lane) = posts_text y lane ++ cond (has_lane y.setup.posts lane) (post_text lane (post_at y lane)) []
+posts_text y (suc lane) = posts_text y lane ++ cond (has_lane y.present lane) (post_text lane (post_at y lane)) []

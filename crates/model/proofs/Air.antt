@@ -109,7 +109,7 @@ order_air R Y p w l y a = record {
     X = upd Y.posts p D
 
     f : Frame
-    f = entries_frame R false p (order_of Q p Q.own) Q
+    f = entries_frame false p (order_of Q p Q.own) Q
 
     more : total X ≡ suc (total Y.posts)
     more = total_more Y.posts p p D l l (rw (y.selves p).own_taken refl)
@@ -166,7 +166,7 @@ taking_air R ro Y p f l fo next y a = record {
     X = upd Y.posts p D
 
     h : Frame
-    h = entries_frame R false p o Q
+    h = entries_frame false p o Q
 
     source : R.source o.lane ≡ true
     source = sends_source R Y y o.lane (omega (arith, order_sent.from_one, order_sent.was_sent))
@@ -207,7 +207,7 @@ beacon_air R Y p small l a = record {
   clocks_under = a.clocks_under;
   beacons_at_most = λ i. upd_case (λ n. n ≤ 128) Y.beacons p (suc (Y.beacons p)) i (λ q. l) (λ q. a.beacons_at_most i);
   first_frames = λ i n b m. first_later Y.air (beacon_done R Y p).air Y.frames (suc Y.frames) i n (Y.first i n) (a.first_frames i n b m)
-      (omega arith) (older_frames Y (entries_frame R true p no_order_lem (Y.posts p)));
+      (omega arith) (older_frames Y (entries_frame true p no_order_lem (Y.posts p)));
 }
   where
     c : ℕ

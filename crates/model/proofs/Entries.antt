@@ -10,8 +10,8 @@ use borrow.Author.Tests.{eqb-true, eq-eqb, ne_eqb, le-leb, lt-leb}
 use Rattle.laws.proofs.TestLaws.{same_or_not}
 use Rattle.roll.specs.Runs.{Order}
 use Rattle.model.proofs.Functions.{le_or_not}
-use Rattle.model.proofs.Model.{Frame, Post, Roles, Yard, best, newest_stamp, newest_serial, entries_frame, no_order_lem, raise}
-use Rattle.model.proofs.Invariants.{RolesOk, Posts, Holds, Sent, Knows, SelfOk, FrameOk, YardOk}
+use Rattle.model.proofs.Model.{Frame, Post, Roles, Yard, best, newest_stamp, entries_frame, no_order_lem, raise}
+use Rattle.model.proofs.Invariants.{Posts, Holds, Sent, Knows, SelfOk, FrameOk, YardOk}
 
 -- ---- hearing raises the table
 
@@ -63,30 +63,22 @@ raise_up t e s i n = go (eqb n (e i))
     go true = omega arith
     go false = omega arith
 
--- ---- a broadcast carries newest entries, the sender's own among them
+-- ---- a broadcast carries the newest entry of each lane
 
--- each entry with a stamp is true, whichever lanes are passed over
-pub broadcast_true : (R : Roles) (W : Posts) (P : Post) (b : Bool) (p : ℕ) (o : Order) → ((i n : ℕ) → 0 < P.table i n → Holds W i n (P.table i n))
-    → (i : ℕ) → 0 < (entries_frame R b p o P).entry_stamp i → Holds W i ((entries_frame R b p o P).entry_serial i) ((entries_frame R b p o P).entry_stamp i)
-broadcast_true R W P b p o k i h = go (R.sends p P.table i) h
-  where
-    go : (c : Bool) → 0 < cond c (newest_stamp (P.table i)) 0 → Holds W i (cond c (newest_serial (P.table i)) 0) (cond c (newest_stamp (P.table i)) 0)
-    go true l = rw (ne_eqb (newest_stamp (P.table i)) 0 (omega arith)) (k i (best (P.table i) 16) l)
-    go false l = absurd (omega arith)
+-- each entry with a stamp is true
+pub broadcast_true : (W : Posts) (P : Post) (b : Bool) (p : ℕ) (o : Order) → ((i n : ℕ) → 0 < P.table i n → Holds W i n (P.table i n))
+    → (i : ℕ) → 0 < (entries_frame b p o P).entry_stamp i → Holds W i ((entries_frame b p o P).entry_serial i) ((entries_frame b p o P).entry_stamp i)
+broadcast_true W P b p o k i h = rw (ne_eqb (newest_stamp (P.table i)) 0 (omega arith)) (k i (best (P.table i) 16) h)
 
 -- so what a post of the yard broadcasts is as frames are
 pub broadcast_ok_lem : (R : Roles) (W : Posts) (P : Post) (b : Bool) (p : ℕ) (o : Order)
-    → R.present p ≡ true → Knows R W P → (b ≡ false → Sent W o) → FrameOk R W (entries_frame R b p o P)
+    → R.present p ≡ true → Knows R W P → (b ≡ false → Sent W o) → FrameOk R W (entries_frame b p o P)
 broadcast_ok_lem R W P b p o present k s = record {
-  entries_hold = broadcast_true R W P b p o k.entries_true;
+  entries_hold = broadcast_true W P b p o k.entries_true;
   order_sent = s;
   sender_present = present;
-  empty_entries = λ i e. none i (R.sends p P.table i) e;
+  empty_entries = λ i e. rw (eq-eqb (newest_stamp (P.table i)) 0 e) refl;
 }
-  where
-    none : (i : ℕ) (c : Bool) → cond c (newest_stamp (P.table i)) 0 ≡ 0 → cond c (newest_serial (P.table i)) 0 ≡ 0
-    none i true e = rw (eq-eqb (newest_stamp (P.table i)) 0 e) refl
-    none i false e = refl
 
 -- the newest entry is the highest, where one is above all others
 best_at : (T : ℕ → ℕ) (m k : ℕ) → m ≤ k → ((n : ℕ) → n ≢ m → T n < T m) → best T k ≡ m
@@ -110,12 +102,12 @@ pub record OwnBeacon (W : Posts) (i : ℕ) (f : Frame) : Type 0 where
   pub says_own : 0 < (W i).clock → (f.entry_serial i ≡ (W i).own) × (f.entry_stamp i ≡ (W i).clock)
 
 -- the sender's own entry of a source's beacon
-pub own_beacon : (R : Roles) → RolesOk R → (Y : Yard) → YardOk R Y → (i : ℕ) → R.source i ≡ true
-    → OwnBeacon Y.posts i (entries_frame R true i no_order_lem (Y.posts i))
-own_beacon R ro Y y i b = record {
+pub own_beacon : (R : Roles) (Y : Yard) → YardOk R Y → (i : ℕ) → R.source i ≡ true
+    → OwnBeacon Y.posts i (entries_frame true i no_order_lem (Y.posts i))
+own_beacon R Y y i b = record {
   is_beacon = refl;
   beacon_from = refl;
-  says_own = λ h. rw (ro.own_sent i P.table) (rw (ne_eqb (newest_stamp T) 0 (omega (arith, stamp h))) (at_own h), stamp h);
+  says_own = λ h. (rw (ne_eqb (newest_stamp T) 0 (omega (arith, stamp h))) (at_own h), stamp h);
 }
   where
     P : Post

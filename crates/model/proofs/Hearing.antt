@@ -24,7 +24,7 @@ post_taking R p P f = taken R p f.carried (raised P f)
 -- the yard where the order is taken: it is broadcast on
 abbrev pub yard_taking : Roles → Yard → ℕ → Frame → Yard
 yard_taking R Y p f =
-    spoken Y p (deliver R p (post_taking R p (Y.posts p) f)) (entries_frame R false p f.carried (post_taking R p (Y.posts p) f))
+    spoken Y p (deliver R p (post_taking R p (Y.posts p) f)) (entries_frame false p f.carried (post_taking R p (Y.posts p) f))
 
 -- the yard where only the entries are heard
 abbrev pub yard_hearing : Roles → Yard → ℕ → Frame → Yard
@@ -82,7 +82,7 @@ taking_ok R ro Y p f present fo next y =
     X = upd Y.posts p (deliver R p Q)
 
     h : Frame
-    h = entries_frame R false p o Q
+    h = entries_frame false p o Q
 
     self_before : SelfOk R p P
     self_before = y.selves p

@@ -17,7 +17,6 @@ pub record RolesOk (R : Roles) : Type 0 where
   pub sources_present : (i : ℕ) → R.source i ≡ true → R.present i ≡ true
   pub dests_present : (i : ℕ) → R.dest i ≡ true → R.present i ≡ true
   pub present_lanes : (i : ℕ) → R.present i ≡ true → i < 8
-  pub own_sent : (p : ℕ) (t : ℕ → ℕ → ℕ) → R.sends p t p ≡ true
 
 -- a source's lane is one of the eight
 pub source_below : (R : Roles) → RolesOk R → (i : ℕ) → R.source i ≡ true → i < 8

@@ -30,12 +30,10 @@ pub record Post : Type 0 where
   pub words : ℕ → ℕ → ℕ
   pub log : List Order
 
--- `sends` says of a post, by its table, which lanes' newest entries its broadcasts carry
 pub record Roles : Type 0 where
   pub source : ℕ → Bool
   pub dest : ℕ → Bool
   pub present : ℕ → Bool
-  pub sends : ℕ → (ℕ → ℕ → ℕ) → ℕ → Bool
 
 -- `beacons` are those sent by each lane, `first` is the number of each order's first frame
 pub record Yard : Type 0 where
@@ -113,13 +111,13 @@ module _ (R : Roles) where
 
 -- ---- what a broadcast carries
 
-abbrev pub entries_frame : Roles → Bool → ℕ → Order → Post → Frame
-entries_frame R b p o P = record {
+abbrev pub entries_frame : Bool → ℕ → Order → Post → Frame
+entries_frame b p o P = record {
   beacon = b;
   sender = p;
   carried = o;
-  entry_serial = λ i. cond (R.sends p P.table i) (newest_serial (P.table i)) 0;
-  entry_stamp = λ i. cond (R.sends p P.table i) (newest_stamp (P.table i)) 0;
+  entry_serial = λ i. newest_serial (P.table i);
+  entry_stamp = λ i. newest_stamp (P.table i);
 }
 
 abbrev pub no_order_lem : Order
@@ -225,7 +223,7 @@ module _ (R : Roles) where
       let P = own_taken p w (Y.posts p) in
       record {
         posts = upd Y.posts p (deliver R p P);
-        air = upd Y.air Y.frames (entries_frame R false p (order_of P p P.own) P);
+        air = upd Y.air Y.frames (entries_frame false p (order_of P p P.own) P);
         frames = suc Y.frames;
         beacons = Y.beacons;
         first = upd2 Y.first p P.own Y.frames;
@@ -234,7 +232,7 @@ module _ (R : Roles) where
   abbrev pub beacon_done : Yard → ℕ → Yard
   beacon_done Y p = record {
     posts = Y.posts;
-    air = upd Y.air Y.frames (entries_frame R true p no_order_lem (Y.posts p));
+    air = upd Y.air Y.frames (entries_frame true p no_order_lem (Y.posts p));
     frames = suc Y.frames;
     beacons = upd Y.beacons p (suc (Y.beacons p));
     first = Y.first;
@@ -244,7 +242,7 @@ module _ (R : Roles) where
   hear_done Y p f =
       let P = raised (Y.posts p) f in
       let Q = taken R p f.carried P in
-      cond (takes P f) (spoken Y p (deliver R p Q) (entries_frame R false p f.carried Q)) (silent Y p (deliver R p P))
+      cond (takes P f) (spoken Y p (deliver R p Q) (entries_frame false p f.carried Q)) (silent Y p (deliver R p P))
 
   unfoldable pub step : Yard → Single → Yard
   step Y (order p w) = cond (eqb (order_refused Y p w) 0) (order_done Y p w) Y

@@ -31,7 +31,7 @@ order_ok R ro Y p w b present room y =
     X = upd Y.posts p (deliver R p Q)
 
     f : Frame
-    f = entries_frame R false p (order_of Q p Q.own) Q
+    f = entries_frame false p (order_of Q p Q.own) Q
 
     -- the posts grow by the order
     g : Grows p P Q

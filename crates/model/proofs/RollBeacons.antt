@@ -56,11 +56,11 @@ module _ (R : Roles) (ro : RolesOk R) (Y : Yard) (y : YardOk R Y) where
   }
     where
       f : Frame
-      f = entries_frame R true k no_order_lem (Z.posts k)
+      f = entries_frame true k no_order_lem (Z.posts k)
 
       go : (i : ℕ) → i < suc k → R.source i ≡ true → (i ≡ k) ⊎ (i ≢ k)
           → OwnBeacon Y.posts i (upd Z.air Z.frames f (Y.frames + sources_below R i))
-      go i l s (inl q) = rw (q, ← h.frames_then, upd_same, h.posts_same) (own_beacon R ro Y y k b)
+      go i l s (inl q) = rw (q, ← h.frames_then, upd_same, h.posts_same) (own_beacon R Y y k b)
       go i l s (inr q) = rw (upd_other Z.air Z.frames f (Y.frames + sources_below R i) before) (h.beacon_at i (omega arith) s)
         where
           before : Y.frames + sources_below R i ≢ Z.frames

@@ -119,7 +119,7 @@ beacon_ok R Y p present y = record {
 }
   where
     f : Frame
-    f = entries_frame R true p no_order_lem (Y.posts p)
+    f = entries_frame true p no_order_lem (Y.posts p)
 
 module _ (R : Roles) (ro : RolesOk R) where
   -- a step, refused or not

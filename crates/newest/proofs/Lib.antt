@@ -1,3 +1,2 @@
 pub mod NewestLaws
-pub mod SendingLaws
 pub mod RowWays

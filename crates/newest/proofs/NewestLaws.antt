@@ -6,7 +6,7 @@ use Prim.Native.Nat.{ℕ, zero, suc, ◌+◌, ◌-◌, ◌*◌, ◌%◌, ◌<◌
 use native.Mathlib.Numerals.{add-one}
 use native.Mathlib.Omega.{arith}
 use lib.Dec.{eqb, ltb, leb}
-use lib.ListN.{length, get_or, get_or-eq_default}
+use lib.ListN.{get_or, set, replicate}
 use borrow.Author.Tests.{eqb-true, eqb-false, eq-eqb, ne_eqb, ltb-false, lt-ltb, le-ltb, leb-true, leb-false}
 use Rattle.frame.specs.Layout.{no_entry}
 use Rattle.frame.specs.declared.Entry.{Entry}
@@ -14,8 +14,8 @@ use Rattle.frame.specs.declared.Serial.{Serial}
 use Rattle.frame.specs.declared.Stamp.{Stamp}
 use Rattle.cells.specs.Tables.{stamp_under}
 use Rattle.cells.proofs.Places.{entry_read}
-use Rattle.post.specs.Newest.{newer, newest_below, newest}
-use Rattle.newest.specs.Loops.{greatest_below, last_below}
+use Rattle.post.specs.Newest.{newer, newest_below, newest, newest_entries}
+use Rattle.newest.specs.Loops.{greatest_below, last_below, entries_below}
 
 -- a stamp and a serial are their numbers
 pub stamp_is_lem : (s : Stamp) (n : ℕ) → s.0 ≡ n → s ≡ record { 0 = n }
@@ -169,15 +169,16 @@ newest_found table lane first g l e p h q =
     let o : ltb 0 g ≡ true = lt-ltb 0 g h in
     rw (newest_below_lem table lane 17 (omega arith), k, o, ← e, ← q)
 
--- its stamp is the greatest
-pub newest_greatest : (table : List ℕ) (lane : ℕ) → (newest table lane).stamp.0 ≡ greatest_below table (lane * 17) 17
-newest_greatest table lane = ap (λ (e : Entry). e.stamp.0) (newest_below_lem table lane 17 (omega arith))
+-- no lane yet, and one lane more
+pub entries_first : (table : List ℕ) (e : Entry) → e ≡ no_entry → replicate 8 e ≡ entries_below table 0
+unfolding entries_below
+entries_first table e p = rw p
 
--- past the last lane there is none
-greatest_past : (table : List ℕ) (first n : ℕ) → length table ≤ first → greatest_below table first n ≡ 0
-unfolding greatest_below
-greatest_past table first zero h = refl
-greatest_past table first (suc n) h = rw (greatest_past table first n h, get_or-eq_default table 0 {n = first + n} (omega arith))
+pub entries_more : (table : List ℕ) (n : ℕ) (es r : List Entry) (e : Entry) → es ≡ entries_below table n → e ≡ newest table n
+    → r ≡ set es n e → r ≡ entries_below table (n + 1)
+unfolding entries_below
+entries_more table n es r e p q s = rw (add-one, ← p, ← q) s
 
-pub newest_past : (table : List ℕ) (lane : ℕ) → length table ≡ 136 → 8 ≤ lane → newest table lane ≡ no_entry
-newest_past table lane l h = sym (newest_none table lane (lane * 17) 0 no_entry refl (sym (greatest_past table (lane * 17) 17 (omega arith))) refl refl)
+pub entries_all : (table : List ℕ) → entries_below table 8 ≡ newest_entries table
+unfolding entries_below newest_entries
+entries_all table = refl

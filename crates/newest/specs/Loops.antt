@@ -1,6 +1,8 @@
 -- What the loops have computed after n turns. For contracts of private functions; nobody has to believe it. Assumes nothing.
-use Rattle.std.specs.Prelude.{ℕ, zero, suc, ◌+◌, max, Bool, cond, List, ltb, eqb, get_or, set, replicate}
-use Rattle.post.specs.Newest.{has_entry, entries_before}
+use Rattle.std.specs.Prelude.{ℕ, zero, suc, ◌+◌, max, cond, List, eqb, get_or, set, replicate}
+use Rattle.frame.specs.Layout.{no_entry}
+use Rattle.frame.specs.declared.Entry.{Entry}
+use Rattle.post.specs.Newest.{newest}
 
 -- the greatest of n stamps from place `first` on
 unfoldable pub greatest_below : List ℕ → ℕ → ℕ → ℕ
@@ -12,15 +14,7 @@ unfoldable pub last_below : List ℕ → ℕ → ℕ → ℕ → ℕ
 last_below table first stamp zero = 0
 last_below table first stamp (suc n) = max (last_below table first stamp n) (cond (eqb (get_or table (first + n) 0) stamp) n 0)
 
--- whether there is room for a lane's entry
-abbrev pub room_for : ℕ → List ℕ → ℕ → ℕ → Bool
-room_for most table own lane = ltb (entries_before table own lane) most
-
--- 1 for a lane with entries, or else 0
-abbrev pub entry_count : List ℕ → ℕ → ℕ
-entry_count table lane = cond (has_entry table lane) 1 0
-
--- what stands at the lanes below n, and something else at the others
-unfoldable pub filled_below : {A : Type 0} → A → (ℕ → A) → ℕ → List A
-filled_below none f zero = replicate 8 none
-filled_below none f (suc lane) = set (filled_below none f lane) lane (f lane)
+-- the newest entries of the lanes below n, and none at the others
+unfoldable pub entries_below : List ℕ → ℕ → List Entry
+entries_below table zero = replicate 8 no_entry
+entries_below table (suc lane) = set (entries_below table lane) lane (newest table lane)

@@ -1,11 +1,10 @@
-// The newest entries of a row's table, and which of them a broadcast of its post carries. The contract of `entries_sent`
-// cites specs/OnRows.antt, those of the loops specs/Loops.antt.
-ghost use Rattle.std.specs.Prelude.{◌≡◌, cond, map, ◌+◌, ◌-◌, ◌<◌, ◌≤◌, max, ltb, eqb, length};
+// The newest entries of a row's table, which each broadcast of its post carries. The contract of `newest_entries` cites
+// specs/OnRows.antt, those of the loops specs/Loops.antt.
+ghost use Rattle.std.specs.Prelude.{◌≡◌, cond, ◌+◌, ◌-◌, ◌<◌, ◌≤◌, max, eqb, length};
 ghost use Rattle.frame.specs.Layout.{no_entry};
-ghost use Rattle.frame.specs.Lanes.{lanes};
-ghost use Rattle.post.specs.Newest.{newest, entry_sent};
+ghost use Rattle.post.specs.Newest.{newest, newest_entries};
 ghost use Rattle.newest.specs.OnRows.{entries_in};
-ghost use Rattle.newest.specs.Loops.{greatest_below, last_below, room_for, entry_count};
+ghost use Rattle.newest.specs.Loops.{greatest_below, last_below};
 
 use frame::{Entry, Frame, Serial, Stamp};
 use post::Post;
@@ -15,95 +14,25 @@ const TABLE: usize = row::TABLE as usize;
 
 const TABLE_END: usize = row::STAMPS as usize;
 
-const LANES: u16 = Frame::LANES as u16;
-
-// What a broadcast carries: the own entry first, then those of the other lanes, rising, until as many are placed as the
-// row's post may send. A row that is cut short has none.
-pub fn entries_sent(row: &[u16]) -> [Entry; Frame::LANES]
+// The newest entry of each lane. A row that is cut short has none.
+pub fn newest_entries(row: &[u16]) -> [Entry; Frame::LANES]
     ensures { result ≡ entries_in row.now }
 {
     if row.len() < row::LENGTH {
         return [none(); Frame::LANES];
     }
-    let own = row[row::LANE];
-    let most = row[row::ENTRIES_LIMIT];
-    entries_of(&row[TABLE..TABLE_END], own, most)
+    entries_of(&row[TABLE..TABLE_END])
 }
 
-// The newest entry of each lane that there is room for.
-fn entries_of(table: &[u16], own: u16, most: u16) -> [Entry; Frame::LANES]
-    requires { length table.now ≡ 136 }
-    ensures { result ≡ map (entry_sent most table.now own) lanes }
+fn entries_of(table: &[u16]) -> [Entry; Frame::LANES]
+    requires { 136 ≤ length table.now }
+    ensures { result ≡ newest_entries table.now }
 {
-    let rooms = rooms_of(table, own, most);
     let mut entries = [none(); Frame::LANES];
     for lane in 0..Frame::LANES {
-        entries[lane] = newest_if(table, lane as u8, rooms[lane]);
+        entries[lane] = newest_of(table, lane as u8);
     }
     entries
-}
-
-fn newest_if(table: &[u16], lane: u8, room: bool) -> Entry
-    requires { (lane < 8) × (136 ≤ length table.now) }
-    ensures { result ≡ cond room (newest table.now lane) no_entry }
-{
-    if room { newest_of(table, lane) } else { none() }
-}
-
-// For which lanes there is room: for all, where eight may be sent.
-fn rooms_of(table: &[u16], own: u16, most: u16) -> [bool; Frame::LANES]
-    requires { length table.now ≡ 136 }
-    ensures { result ≡ map (room_for most table.now own) lanes }
-{
-    if LANES <= most {
-        return [true; Frame::LANES];
-    }
-    some_rooms(table, own, most)
-}
-
-// For the own entry first, then for the others until so many are placed.
-fn some_rooms(table: &[u16], own: u16, most: u16) -> [bool; Frame::LANES]
-    requires { length table.now ≡ 136 }
-    ensures { result ≡ map (room_for most table.now own) lanes }
-{
-    let mut rooms = [false; Frame::LANES];
-    let mut placed = count(table, own);
-    for lane in 0..LANES {
-        let room = has_room(lane == own, placed, most);
-        rooms[lane as usize] = room;
-        placed = placed + added(table, lane, (lane == own) | !room);
-    }
-    rooms
-}
-
-// The own entry waits for none, another for those that are placed.
-fn has_room(own: bool, placed: u8, most: u16) -> bool
-    ensures { result ≡ ltb (cond own 0 placed) most }
-{
-    (cells::pick(own, 0, placed) as u16) < most
-}
-
-// How many entries a lane adds to those that are placed: none where it is passed over.
-fn added(table: &[u16], lane: u16, passed: bool) -> u8
-    requires { length table.now ≡ 136 }
-    ensures value { result ≡ cond passed 0 (entry_count table.now lane) }
-    ensures small { result ≤ 1 }
-{
-    if passed { 0 } else { count(table, lane) }
-}
-
-// 1 for a lane with entries, or else 0.
-fn count(table: &[u16], lane: u16) -> u8
-    requires { length table.now ≡ 136 }
-    ensures value { result ≡ entry_count table.now lane }
-    ensures small { result ≤ 1 }
-{
-    if lane < LANES {
-        let stamp = greatest(table, (lane as usize) * (Serial::COUNT as usize));
-        cells::pick(stamp.0 == 0, 0, 1)
-    } else {
-        0
-    }
 }
 
 // No entry.

@@ -1,5 +1,5 @@
--- Newest entries, and the frames that carry them: document 01, "Newest entries", "Hear" part 1, "Beacon"; document 02, K3. Assumes nothing.
-use Rattle.std.specs.Prelude.{ℕ, zero, suc, ◌+◌, max, Bool, cond, not, ◌&&◌, List, map, ltb, leb, eqb, get_or}
+-- Newest entries, and the frames that carry them: document 01, "Newest entries", "Hear" part 1, "Beacon". Assumes nothing.
+use Rattle.std.specs.Prelude.{ℕ, zero, suc, max, cond, ◌&&◌, List, map, ltb, leb, get_or}
 use Rattle.frame.specs.Lanes.{lanes}
 use Rattle.frame.specs.Layout.{no_entry}
 use Rattle.frame.specs.declared.Entry.{Entry}
@@ -32,33 +32,8 @@ abbrev pub newest : List ℕ → ℕ → Entry
 newest table lane = newest_below table lane 17
 
 -- "for each lane"
-abbrev pub newest_entries : List ℕ → List Entry
+unfoldable pub newest_entries : List ℕ → List Entry
 newest_entries table = map (newest table) lanes
-
--- an entry that has a stamp
-abbrev pub has_stamp : Entry → Bool
-has_stamp e = not (eqb e.stamp.0 0)
-
--- a lane "with entries": its newest one has a stamp
-abbrev pub has_entry : List ℕ → ℕ → Bool
-has_entry table lane = has_stamp (newest table lane)
-
--- how many of the lanes below n, other than the sender's own, have entries
-unfoldable pub others_below : List ℕ → ℕ → ℕ → ℕ
-others_below table own zero = 0
-others_below table own (suc lane) = others_below table own lane + cond (not (eqb lane own) && has_entry table lane) 1 0
-
--- K3, "the sender's own entry first if it has one, then the other lanes with entries in rising order": how many come before a lane's
-unfoldable pub entries_before : List ℕ → ℕ → ℕ → ℕ
-entries_before table own lane = cond (eqb lane own) 0 (cond (has_entry table own) 1 0 + others_below table own lane)
-
--- "until E are placed"; "lanes passed over are zero"
-unfoldable pub entry_sent : ℕ → List ℕ → ℕ → ℕ → Entry
-entry_sent e table own lane = cond (ltb (entries_before table own lane) e) (newest table lane) no_entry
-
--- what a broadcast of p carries, for each lane
-unfoldable pub entries_sent : Post → List Entry
-entries_sent p = map (entry_sent p.setup.entries p.table p.lane) lanes
 
 -- an order broadcast by p, "under its own lane as sender"
 abbrev pub order_frame : Post → ℕ → ℕ → ℕ → ℕ → Frame
@@ -69,7 +44,7 @@ order_frame p lane serial stamp word = record {
   serial = record { 0 = serial };
   stamp = record { 0 = stamp };
   word = word;
-  entries = entries_sent p;
+  entries = newest_entries p.table;
 }
 
 -- "A beacon has bytes 2–7 zero."
@@ -81,5 +56,5 @@ beacon_frame p = record {
   serial = record { 0 = 0 };
   stamp = record { 0 = 0 };
   word = 0;
-  entries = entries_sent p;
+  entries = newest_entries p.table;
 }

@@ -1,29 +1,29 @@
 -- A post's record: document 01, "Posts, stamps, serials". Assumes nothing.
 use Rattle.std.specs.Prelude.{ℕ, Bool, List, get_or, replicate}
 use Rattle.cells.specs.Sets.{has_lane}
-use Rattle.setup.specs.declared.Setup.{Setup}
 use Rattle.post.specs.declared.Post.{Post}
 
 -- the roles of lane i
 abbrev pub is_post : Post → ℕ → Bool
-is_post p i = has_lane p.setup.posts i
+is_post p i = has_lane p.posts i
 
 abbrev pub is_source : Post → ℕ → Bool
-is_source p i = has_lane p.setup.sources i
+is_source p i = has_lane p.sources i
 
 abbrev pub is_dest : Post → ℕ → Bool
-is_dest p i = has_lane p.setup.dests i
+is_dest p i = has_lane p.dests i
 
 -- "the last serial taken from each lane"
 abbrev pub last_of : Post → ℕ → ℕ
 last_of p lane = get_or p.last lane 0
 
 -- "A fresh post has clock 0, serial 0 and empty tables."
-abbrev pub fresh_post : ℕ → Setup → Post
-fresh_post lane setup = record {
+abbrev pub fresh_post : ℕ → ℕ → ℕ → ℕ → Post
+fresh_post lane posts sources dests = record {
   lane = lane;
-  setup = setup;
-  spare = 0;
+  posts = posts;
+  sources = sources;
+  dests = dests;
   clock = record { 0 = 0 };
   serial = record { 0 = 0 };
   last = replicate 8 0;
@@ -34,12 +34,13 @@ fresh_post lane setup = record {
   logged = 0;
 }
 
--- p with another clock, own serial and newest_stamp_lem table
+-- p with another clock, own serial and newest-stamp table
 abbrev pub with_clock : Post → ℕ → ℕ → List ℕ → Post
 with_clock p clock serial table = record {
   lane = p.lane;
-  setup = p.setup;
-  spare = p.spare;
+  posts = p.posts;
+  sources = p.sources;
+  dests = p.dests;
   clock = record { 0 = clock };
   serial = record { 0 = serial };
   last = p.last;
@@ -54,8 +55,9 @@ with_clock p clock serial table = record {
 abbrev pub with_orders : Post → List ℕ → List ℕ → List ℕ → Post
 with_orders p last stamps words = record {
   lane = p.lane;
-  setup = p.setup;
-  spare = p.spare;
+  posts = p.posts;
+  sources = p.sources;
+  dests = p.dests;
   clock = p.clock;
   serial = p.serial;
   last = last;
@@ -70,8 +72,9 @@ with_orders p last stamps words = record {
 abbrev pub with_log : Post → List ℕ → ℕ → Post
 with_log p log logged = record {
   lane = p.lane;
-  setup = p.setup;
-  spare = p.spare;
+  posts = p.posts;
+  sources = p.sources;
+  dests = p.dests;
   clock = p.clock;
   serial = p.serial;
   last = p.last;

@@ -4,18 +4,17 @@ ghost use Rattle.post.specs.Record.{fresh_post};
 
 use cells::{PLACES, TABLE};
 use frame::{Frame, Serial, Stamp};
-use setup::Setup;
 
-// A post: its lane, what line 1 says of its yard, its logical clock and own serial; for each lane the last serial taken;
-// the newest_stamp_lem table, 8 lanes by 17 serials; the orders taken, stamp and word at place 16 × lane + serial − 1; the log,
-// as places, and its length. The spare byte is 0, kept for a later version. Hosts lend it: laid out as in C, 930 bytes
-// without a gap.
+// A post: its lane, the yard's posts and roles as sets of eight bits, its logical clock and own serial; for each lane
+// the last serial taken; the newest-stamp table, 8 lanes by 17 serials; the orders taken, stamp and word at place
+// 16 × lane + serial − 1; the log, as places, and its length. Hosts lend it: laid out as in C, 928 bytes without a gap.
 #[repr(C)]
 #[derive(Drop)]
 pub struct Post {
     pub lane: u8,
-    pub setup: Setup,
-    pub spare: u8,
+    pub posts: u8,
+    pub sources: u8,
+    pub dests: u8,
     pub clock: Stamp,
     pub serial: Serial,
     pub logged: u8,
@@ -37,14 +36,15 @@ impl Post {
 
     pub const FRAME_LENGTH: usize = Frame::LENGTH;
 
-    // A fresh post by lane and what line 1 says, not judged: `single::fresh` judges.
-    pub fn new(lane: u8, setup: Setup) -> Self
-        ensures { result ≡ fresh_post lane setup }
+    // A fresh post by lane and roles, not judged: `single::fresh` judges.
+    pub fn new(lane: u8, posts: u8, sources: u8, dests: u8) -> Self
+        ensures { result ≡ fresh_post lane posts sources dests }
     {
         Post {
             lane: lane,
-            setup: setup,
-            spare: 0,
+            posts: posts,
+            sources: sources,
+            dests: dests,
             clock: Stamp(0),
             serial: Serial(0),
             logged: 0,

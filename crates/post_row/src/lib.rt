@@ -7,7 +7,6 @@ ghost use Rattle.post_row.specs.Records.{byte_of, with_numbers, loaded_in, recor
 use cells::{PLACES, TABLE};
 use frame::{Frame, Serial, Stamp};
 use post::Post;
-use setup::Setup;
 
 // The record in the row; what the row knows to be logged stays.
 pub fn load(row: &mut [u16], p: Post)
@@ -26,43 +25,36 @@ pub fn load(row: &mut [u16], p: Post)
     widen(&p.log, &mut row[414..542]);
 }
 
-// The numbers stand before the record's arrays and after them.
 fn load_numbers(row: &mut [u16], p: Post)
-    requires* { do ⌜ 545 ≤ (← ⟦row.len()⟧) ⌝ }
+    requires* { do ⌜ 543 ≤ (← ⟦row.len()⟧) ⌝ }
     ensures row_after { post_in row.new ≡ with_numbers (post_in row.old) p }
     ensures known { known_in row.new ≡ known_in row.old }
     ensures past { past_in row.new ≡ past_in row.old }
 {
     let numbers = [
         p.lane as u16,
-        p.setup.sources as u16,
-        p.setup.dests as u16,
+        p.sources as u16,
+        p.dests as u16,
         p.clock.0,
         p.serial.0 as u16,
         p.logged as u16,
     ];
     copy(&numbers, &mut row[0..6]);
-    let ending = [p.setup.entries as u16, p.spare as u16, p.setup.posts as u16];
-    copy(&ending, &mut row[542..545]);
+    row::put(row, row::POSTS, p.posts as u16);
 }
 
 // The record of a row.
 pub fn store(row: &[u16]) -> Post
     ensures { result ≡ record_in row.now }
 {
-    let mut post = Post::new(0, Setup::none());
+    let mut post = Post::new(0, 0, 0, 0);
     if row.len() < row::LENGTH {
         return post;
     }
     post.lane = byte(row[row::LANE]);
-    let setup = Setup {
-        posts: byte(row[row::POSTS]),
-        sources: byte(row[row::SOURCES]),
-        dests: byte(row[row::DESTS]),
-        entries: byte(row[row::ENTRIES_LIMIT]),
-    };
-    post.setup = setup;
-    post.spare = byte(row[row::SPARE]);
+    post.posts = byte(row[row::POSTS]);
+    post.sources = byte(row[row::SOURCES]);
+    post.dests = byte(row[row::DESTS]);
     let clock = Stamp(row[row::CLOCK]);
     post.clock = clock;
     let serial = Serial(byte(row[row::SERIAL]));

@@ -7,14 +7,14 @@ use native.Mathlib.Omega.{arith}
 use lib.ListN.{length, get_or}
 use Rattle.text.specs.Bytes.{bytes}
 use Rattle.scan.specs.Scan.{stands, start_at, failed, read_text, first_digit, next_digit, read_number}
-use Rattle.lines.specs.Forms.{Item, text, number, order_form, hear_form, beacon_form, roll_form, read_items, read_form, or_role, read_role, posts_read, no_posts, scan_of, yard_posts, entries_begin, entries_form, entries_read, yard_ended, read_yard}
-use Rattle.lines.specs.Lines.{asks, refused, order_line, hear_line, beacon_line, yard_or, roll_or, beacon_or, hear_or, line_at}
+use Rattle.lines.specs.Forms.{Item, text, number, order_form, hear_form, beacon_form, roll_form, read_items, read_form, or_role, read_role, posts_read, no_posts, read_yard}
+use Rattle.lines.specs.Lines.{order_line, hear_line, beacon_line, roll_line, yard_or, roll_or, beacon_or, hear_or, line_at}
 use Rattle.scan.specs.declared.Scan.{Scan}
 use Rattle.lines.specs.declared.YardScan.{YardScan}
 use Rattle.lines.specs.declared.Line.{Line}
-use Rattle.lines.specs.declared.Asked.TheVariants.{Roll}
+use Rattle.lines.specs.declared.Line.TheVariants.{Refused}
 use Rattle.scan.proofs.Laws.{never}
-use Rattle.scan.proofs.TextLaws.{ways, and_no, stands_not, text_off}
+use Rattle.scan.proofs.TextLaws.{and_no, stands_not, text_off}
 
 -- ---- a form whose first text does not stand is not read
 
@@ -56,15 +56,11 @@ unfolding posts_read
 posts_off s y zero h = h
 posts_off s y (suc n) h = rw h
 
-entries_off : (s : List ℕ) (y : YardScan) → y.ok ≡ false → (entries_read s y).ok ≡ false
-unfolding entries_read
-entries_off s y h = ways (λ (z : YardScan). z.ok ≡ false) (entries_begin s y.at) _ y (λ e. items_off s entries_form (scan_of y) h) h
-
 yard_off : (s : List ℕ) (at : ℕ) → (letter s at ≡ 121 → ⊥) → (read_yard s at).ok ≡ false
-unfolding read_yard yard_ended
+unfolding read_yard
 yard_off s at n =
     let e = text_off s (bytes "(yard") (start_at at) (stands_not s (bytes "(yard") at 1 (at + 1) refl (omega arith) n) in
-    text_off s (bytes ")\n") _ (rw (entries_off s (yard_posts s at) (posts_off s (no_posts (read_text s (bytes "(yard") (start_at at))) (length s) e)))
+    text_off s (bytes ")\n") _ (rw (posts_off s (no_posts (read_text s (bytes "(yard") (start_at at))) (length s) e))
 
 -- ---- the line with each letter
 
@@ -72,36 +68,36 @@ skip : (t : Bool) (a b r : Line) → t ≡ false → r ≡ b → r ≡ cond t a 
 skip t a b r h q = rw h q
 
 module _ (s : List ℕ) (at : ℕ) where
-  no_yard : (letter s at ≡ 121 → ⊥) → refused s 2 ≡ yard_or s at
+  no_yard : (letter s at ≡ 121 → ⊥) → Refused 2 ≡ yard_or s at
   unfolding yard_or
   no_yard y = skip _ _ _ _ (yard_off s at y) refl
 
-  no_roll : (letter s at ≡ 114 → ⊥) → (letter s at ≡ 121 → ⊥) → refused s 2 ≡ roll_or s at
+  no_roll : (letter s at ≡ 114 → ⊥) → (letter s at ≡ 121 → ⊥) → Refused 2 ≡ roll_or s at
   unfolding roll_or
   no_roll r y = skip _ _ _ _ (form_off s roll_form at (omega arith) r) (no_yard y)
 
-  no_beacon : (letter s at ≡ 98 → ⊥) → (letter s at ≡ 114 → ⊥) → (letter s at ≡ 121 → ⊥) → refused s 2 ≡ beacon_or s at
+  no_beacon : (letter s at ≡ 98 → ⊥) → (letter s at ≡ 114 → ⊥) → (letter s at ≡ 121 → ⊥) → Refused 2 ≡ beacon_or s at
   unfolding beacon_or
   no_beacon b r y = skip _ _ _ _ (form_off s beacon_form at (omega arith) b) (no_roll r y)
 
-  no_hear : (letter s at ≡ 104 → ⊥) → (letter s at ≡ 98 → ⊥) → (letter s at ≡ 114 → ⊥) → (letter s at ≡ 121 → ⊥) → refused s 2 ≡ hear_or s at
+  no_hear : (letter s at ≡ 104 → ⊥) → (letter s at ≡ 98 → ⊥) → (letter s at ≡ 114 → ⊥) → (letter s at ≡ 121 → ⊥) → Refused 2 ≡ hear_or s at
   unfolding hear_or
   no_hear h b r y = skip _ _ _ _ (form_off s hear_form at (omega arith) h) (no_beacon b r y)
 
   -- with one letter, one form or refusal 2
-  pub line_order : (r : Line) → letter s at ≡ 111 → r ≡ cond (read_form s order_form at).ok (order_line s (read_form s order_form at)) (refused s 2)
+  pub line_order : (r : Line) → letter s at ≡ 111 → r ≡ cond (read_form s order_form at).ok (order_line at (read_form s order_form at)) (Refused 2)
       → r ≡ line_at s at
   unfolding line_at
   line_order r e q = rw (← no_hear (λ z. omega arith) (λ z. omega arith) (λ z. omega arith) (λ z. omega arith)) q
 
-  pub line_hear : (r : Line) → letter s at ≡ 104 → r ≡ cond (read_form s hear_form at).ok (hear_line s (read_form s hear_form at)) (refused s 2)
+  pub line_hear : (r : Line) → letter s at ≡ 104 → r ≡ cond (read_form s hear_form at).ok (hear_line at (read_form s hear_form at)) (Refused 2)
       → r ≡ line_at s at
   unfolding line_at hear_or
   line_hear r e q =
       skip _ _ _ _ (form_off s order_form at (omega arith) (λ z. omega arith))
       (rw (← no_beacon (λ z. omega arith) (λ z. omega arith) (λ z. omega arith)) q)
 
-  pub line_beacon : (r : Line) → letter s at ≡ 98 → r ≡ cond (read_form s beacon_form at).ok (beacon_line s (read_form s beacon_form at)) (refused s 2)
+  pub line_beacon : (r : Line) → letter s at ≡ 98 → r ≡ cond (read_form s beacon_form at).ok (beacon_line at (read_form s beacon_form at)) (Refused 2)
       → r ≡ line_at s at
   unfolding line_at hear_or beacon_or
   line_beacon r e q =
@@ -109,7 +105,7 @@ module _ (s : List ℕ) (at : ℕ) where
       (skip _ _ _ _ (form_off s hear_form at (omega arith) (λ z. omega arith))
       (rw (← no_roll (λ z. omega arith) (λ z. omega arith)) q))
 
-  pub line_roll : (r : Line) → letter s at ≡ 114 → r ≡ cond (read_form s roll_form at).ok (asks Roll (read_form s roll_form at).at) (refused s 2)
+  pub line_roll : (r : Line) → letter s at ≡ 114 → r ≡ cond (read_form s roll_form at).ok (roll_line at (read_form s roll_form at)) (Refused 2)
       → r ≡ line_at s at
   unfolding line_at hear_or beacon_or roll_or
   line_roll r e q =
@@ -127,7 +123,7 @@ module _ (s : List ℕ) (at : ℕ) where
       (skip _ _ _ _ (form_off s roll_form at (omega arith) (λ z. omega arith)) q)))
 
   pub line_none : (letter s at ≡ 111 → ⊥) → (letter s at ≡ 104 → ⊥) → (letter s at ≡ 98 → ⊥) → (letter s at ≡ 114 → ⊥) → (letter s at ≡ 121 → ⊥)
-      → refused s 2 ≡ line_at s at
+      → Refused 2 ≡ line_at s at
   unfolding line_at
   line_none o h b r y = skip _ _ _ _ (form_off s order_form at (omega arith) o) (no_hear h b r y)
 

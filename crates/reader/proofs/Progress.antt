@@ -8,11 +8,10 @@ use lib.ListN.{length}
 use lib.Dec.{ltb, eqb}
 use Rattle.text.specs.Bytes.{bytes}
 use Rattle.scan.specs.Scan.{stands, digit_at, start_at, read_text, first_digit, next_digit, read_number}
-use Rattle.lines.specs.Forms.{order_form, hear_form, beacon_form, roll_form, read_form, as_role, or_role, read_role, read_post, post_added, post_begins, posts_read, read_yard}
-use Rattle.lines.specs.Lines.{asks, refused, asks_unless, order_line, hear_line, beacon_line, yard_or, roll_or, beacon_or, hear_or, line_at}
+use Rattle.lines.specs.Forms.{order_form, hear_form, beacon_form, roll_form, read_form, as_role, or_role, read_role, read_post, post_added, posts_read, read_yard}
+use Rattle.lines.specs.Lines.{yard_line_refusal, yard_line, step_line_refusal, order_line, hear_line, beacon_line, roll_line, yard_or, roll_or, beacon_or, hear_or, line_at, next_of}
 use Rattle.scan.specs.declared.Scan.{Scan}
 use Rattle.lines.specs.declared.YardScan.{YardScan}
-use Rattle.lines.specs.declared.Asked.{Asked}
 use Rattle.lines.specs.declared.Line.{Line}
 use Rattle.scan.proofs.Laws.{both, never}
 use Rattle.scan.proofs.TextLaws.{ways, stands_in}
@@ -59,7 +58,7 @@ posts_on : (s : List ℕ) (n m : ℕ) (y : YardScan) → m ≤ y.at → m ≤ (p
 unfolding posts_read post_added
 posts_on s zero m y h = h
 posts_on s (suc n) m y h =
-    ways (λ (z : YardScan). m ≤ z.at) (y.ok && post_begins s y.at) _ _ (λ e. posts_on s n m _ (post_on s y.at m (text_on s _ m _ h))) h
+    ways (λ (z : YardScan). m ≤ z.at) (y.ok && stands s y.at (bytes " (")) _ _ (λ e. posts_on s n m _ (post_on s y.at m (text_on s _ m _ h))) h
 
 -- ---- each form ends with a text, and so further on
 
@@ -87,23 +86,44 @@ beacon_end s at = text_end s _ at _ (omega arith) (number_on s at _ (text_on s _
 roll_end : (s : List ℕ) (at : ℕ) → (read_form s roll_form at).ok ≡ true → Above s at (read_form s roll_form at).at
 roll_end s at = text_end s _ at (start_at at) (omega arith) (omega arith)
 
+yard_end : (s : List ℕ) (at : ℕ) → (read_yard s at).ok ≡ true → Above s at (read_yard s at).at
+unfolding read_yard
+yard_end s at = text_end s _ at _ (omega arith) (posts_on s (length s) at _ (text_on s _ at (start_at at) (omega arith)))
+
 -- ---- lines
 
 abbrev After : List ℕ → ℕ → Line → Type 0
-After s at l = Above s at l.next
+After s at l = Above s at (next_of s l)
 
-unless_after : (s : List ℕ) (at k : ℕ) (step : Asked) (next : ℕ) → at < length s → Above s at next → After s at (asks_unless s k step next)
-unfolding asks_unless
-unless_after s at k step next h a = ways (After s at) (eqb k 0) (asks step next) (refused s k) (λ e. a) (h, omega arith)
+yard_after : (s : List ℕ) (at : ℕ) (y : YardScan) → at < length s → Above s at y.at → After s at (yard_line at y)
+unfolding yard_line
+yard_after s at y h k = ways (After s at) (eqb (yard_line_refusal at y) 0) _ _ (λ e. k) (h, omega arith)
+
+order_after : (s : List ℕ) (at : ℕ) (c : Scan) → at < length s → Above s at c.at → After s at (order_line at c)
+unfolding order_line
+order_after s at c h k = ways (After s at) (eqb (step_line_refusal at c.earlier c.latest) 0) _ _ (λ e. k) (h, omega arith)
+
+hear_after : (s : List ℕ) (at : ℕ) (c : Scan) → at < length s → Above s at c.at → After s at (hear_line at c)
+unfolding hear_line
+hear_after s at c h k = ways (After s at) (eqb (step_line_refusal at c.earlier 0) 0) _ _ (λ e. k) (h, omega arith)
+
+beacon_after : (s : List ℕ) (at : ℕ) (c : Scan) → at < length s → Above s at c.at → After s at (beacon_line at c)
+unfolding beacon_line
+beacon_after s at c h k = ways (After s at) (eqb (step_line_refusal at c.latest 0) 0) _ _ (λ e. k) (h, omega arith)
+
+roll_after : (s : List ℕ) (at : ℕ) (c : Scan) → at < length s → Above s at c.at → After s at (roll_line at c)
+unfolding roll_line
+roll_after s at c h k = ways (After s at) (eqb (step_line_refusal at 0 0) 0) _ _ (λ e. k) (h, omega arith)
 
 after : (s : List ℕ) (at : ℕ) → at < length s → After s at (line_at s at)
-unfolding line_at hear_or beacon_or roll_or yard_or order_line hear_line beacon_line
+unfolding line_at hear_or beacon_or roll_or yard_or
 after s at h =
-    ways (After s at) (read_form s order_form at).ok _ _ (λ e. unless_after s at _ _ _ h (order_end s at e))
-    (ways (After s at) (read_form s hear_form at).ok _ _ (λ e. unless_after s at _ _ _ h (hear_end s at e))
-    (ways (After s at) (read_form s beacon_form at).ok _ _ (λ e. unless_after s at _ _ _ h (beacon_end s at e))
-    (ways (After s at) (read_form s roll_form at).ok _ _ (λ e. roll_end s at e)
-    (ways (After s at) (read_yard s at).ok (refused s 3) (refused s 2) (λ e. (h, omega arith)) (h, omega arith)))))
+    ways (After s at) (read_form s order_form at).ok _ _ (λ e. order_after s at _ h (order_end s at e))
+    (ways (After s at) (read_form s hear_form at).ok _ _ (λ e. hear_after s at _ h (hear_end s at e))
+    (ways (After s at) (read_form s beacon_form at).ok _ _ (λ e. beacon_after s at _ h (beacon_end s at e))
+    (ways (After s at) (read_form s roll_form at).ok _ _ (λ e. roll_after s at _ h (roll_end s at e))
+    (ways (After s at) (read_yard s at).ok _ _ (λ e. yard_after s at _ h (yard_end s at e))
+    (h, omega arith)))))
 
-pub next_above : (s : List ℕ) (at : ℕ) → at < length s → at < (line_at s at).next
+pub next_above : (s : List ℕ) (at : ℕ) → at < length s → at < next_of s (line_at s at)
 next_above s at h = (after s at h).0

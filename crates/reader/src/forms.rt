@@ -1,12 +1,12 @@
 // The forms of a script's lines: Forms.antt of the crate `lines`.
 ghost use Rattle.std.specs.Prelude.{◌≡◌, cond, ◌&&◌, length};
-ghost use Rattle.scan.specs.Scan.{failed};
-ghost use Rattle.lines.specs.Forms.{order_form, hear_form, beacon_form, roll_form, read_form, as_role, or_role, read_role, read_post, bit_of, post_added, post_begins, posts_read, no_posts, scan_of, read_on, yard_posts, entries_form, read_items, entries_read, yard_ended, read_yard};
+ghost use Rattle.text.specs.Bytes.{bytes};
+ghost use Rattle.scan.specs.Scan.{stands, failed};
+ghost use Rattle.lines.specs.Forms.{order_form, hear_form, beacon_form, roll_form, read_form, as_role, or_role, read_role, read_post, bit_of, post_added, posts_read, no_posts, scan_of, ended, yard_posts, read_yard};
 
 use frame::Frame;
 use lines::YardScan;
 use scan::{Scan, byte_at, fail, read_number, read_text, stands_at, start_at};
-use setup::Setup;
 
 // `(order LANE WORD)`
 pub(crate) fn read_order(s: &[u8], at: usize) -> Scan
@@ -46,42 +46,12 @@ pub(crate) fn read_roll(s: &[u8], at: usize) -> Scan
     read_text(s, b"(roll)\n", start_at(at))
 }
 
-// `(yard (LANE ROLE) ..)`, its last item `(entries E)` or none.
+// `(yard (LANE ROLE) ..)`
 pub(crate) fn read_yard(s: &[u8], at: usize) -> YardScan
     ensures { result ≡ read_yard s.now at }
 {
     let y = yard_posts(s, at);
-    end_yard(s, read_entries(s, y))
-}
-
-// The last item, if it begins there.
-fn read_entries(s: &[u8], y: YardScan) -> YardScan
-    ensures { result ≡ entries_read s.now y }
-{
-    let here = stands_at(s, y.at, b" (entries ");
-    if here {
-        let c = entries_item(s, scan_of(y));
-        read_on(y, c, c.latest)
-    } else {
-        y
-    }
-}
-
-// ` (entries E)`
-fn entries_item(s: &[u8], c: Scan) -> Scan
-    ensures { result ≡ read_items s.now entries_form c }
-{
-    let n = read_text(s, b" (entries ", c);
-    let n = read_number(s, n);
-    read_text(s, b")", n)
-}
-
-// `)` and a line feed.
-fn end_yard(s: &[u8], y: YardScan) -> YardScan
-    ensures { result ≡ yard_ended s.now y }
-{
-    let c = read_text(s, b")\n", scan_of(y));
-    read_on(y, c, y.entries)
+    end_yard(y, read_text(s, b")\n", scan_of(y)))
 }
 
 fn yard_posts(s: &[u8], at: usize) -> YardScan
@@ -104,13 +74,12 @@ fn read_posts(s: &[u8], y: YardScan) -> YardScan
     z
 }
 
-// Whether a post more begins: an item that is not the last.
+// Whether a post more begins.
 fn post_begins(s: &[u8], y: YardScan) -> bool
-    ensures { result ≡ (y.ok && post_begins s.now y.at) }
+    ensures { result ≡ (y.ok && stands s.now y.at (bytes " (")) }
 {
     let here = stands_at(s, y.at, b" (");
-    let last = stands_at(s, y.at, b" (entries ");
-    y.ok & (here & !last)
+    y.ok & here
 }
 
 // ` (LANE ROLE)`
@@ -162,8 +131,6 @@ fn as_role(c: Scan, role: u32, r: Scan) -> Scan
 
 const LANES: u32 = Frame::LANES as u32;
 
-const MOST_ENTRIES: u32 = Setup::MOST_ENTRIES as u32;
-
 // A lane's bit in a set of eight; none for a lane over 7.
 fn bit_of(lane: u32) -> u8
     ensures { result ≡ bit_of lane }
@@ -185,7 +152,6 @@ fn post_added(y: YardScan, c: Scan) -> YardScan
         sources: y.sources | source,
         dests: y.dests | dest,
         rising: y.rising & (y.posts < bit),
-        entries: y.entries,
     }
 }
 
@@ -199,7 +165,6 @@ fn no_posts(c: Scan) -> YardScan
         sources: 0,
         dests: 0,
         rising: true,
-        entries: MOST_ENTRIES,
     }
 }
 
@@ -214,9 +179,8 @@ fn scan_of(y: YardScan) -> Scan
     }
 }
 
-// A yard read further, with this number of entries.
-fn read_on(y: YardScan, c: Scan, entries: u32) -> YardScan
-    ensures { result ≡ read_on y c entries }
+fn end_yard(y: YardScan, c: Scan) -> YardScan
+    ensures { result ≡ ended y c }
 {
     YardScan {
         ok: c.ok,
@@ -225,7 +189,6 @@ fn read_on(y: YardScan, c: Scan, entries: u32) -> YardScan
         sources: y.sources,
         dests: y.dests,
         rising: y.rising,
-        entries: entries,
     }
 }
 

@@ -129,8 +129,8 @@ pub posts_keep : (h : Here) (y : Yard) (k : ℕ) → Same (singles_in h (posts_h
 unfolding posts_hear
 posts_keep h y zero = keeps_none h
 posts_keep h y (suc p) =
-    keeps_append h (posts_hear y p) (cond (has_lane y.setup.posts p) (lanes_hears y p 8) []) (posts_keep h y p)
-    (present_keeps (singles_in h (posts_hear y p)) y p (has_lane y.setup.posts p))
+    keeps_append h (posts_hear y p) (cond (has_lane y.present p) (lanes_hears y p 8) []) (posts_keep h y p)
+    (present_keeps (singles_in h (posts_hear y p)) y p (has_lane y.present p))
 
 -- ---- the same list, of a yard with the same first frames and serials
 

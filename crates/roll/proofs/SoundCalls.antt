@@ -23,7 +23,7 @@ frames_sound h w s = ap frames_in s.yard
 -- the list, of the yard that the state holds
 steps_whole : (h : Here) (y : Yard) (ks : List (List ℕ)) → h.held ≡ whole y ks
     → roll_steps_in h.held h.air
-    ≡ posts_hear y 8 ++ (beacons_sent y.setup.sources 8 ++ posts_hear_beacons y.setup.posts y.setup.sources (frames_in (singles_in h (posts_hear y 8)).held) 8)
+    ≡ posts_hear y 8 ++ (beacons_sent y.sources 8 ++ posts_hear_beacons y.present y.sources (frames_in (singles_in h (posts_hear y 8)).held) 8)
 unfolding roll_steps_in
 steps_whole h y ks e = rw e
 

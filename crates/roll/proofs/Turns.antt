@@ -67,16 +67,16 @@ due s air t exit n l u false e q h = absurd (let z : ◌≡◌ {A = ℕ} 0 1 = c
 
 -- ---- what the hearings keep stands in the state as it stood
 
-first_in : (s : List ℕ) → length s ≡ 4501 → first_of (held_in s) ≡ (yard_in s).first
+first_in : (s : List ℕ) → length s ≡ 4483 → first_of (held_in s) ≡ (yard_in s).first
 unfolding first_of
 first_in s h = ap first_of (held_whole s h)
 
-serial_in : (s : List ℕ) → length s ≡ 4501 → (q : ℕ) → serial_of (held_in s) q ≡ (post_at (yard_in s) q).serial.0
+serial_in : (s : List ℕ) → length s ≡ 4483 → (q : ℕ) → serial_of (held_in s) q ≡ (post_at (yard_in s) q).serial.0
 unfolding serial_of
 serial_in s h q = ap (λ (x : Held). serial_of x q) (held_whole s h)
 
 -- where a state has the sets of posts and sources, the first frames, and an own serial
-pub sets_in : (s : List ℕ) → ((yard_in s).setup.posts ≡ get_or s 0 0) × ((yard_in s).setup.sources ≡ get_or s 1 0)
+pub sets_in : (s : List ℕ) → ((yard_in s).present ≡ get_or s 0 0) × ((yard_in s).sources ≡ get_or s 1 0)
 unfolding yard_in
 sets_in s = (refl, refl)
 
@@ -84,11 +84,11 @@ first_part : (s : List ℕ) → (yard_in s).first ≡ part s 11 128
 unfolding yard_in
 first_part s = refl
 
-serial_cell : (s : List ℕ) (q : ℕ) → q < 8 → (post_at (yard_in s) q).serial.0 ≡ get_or s (141 + 545 * q + 4) 0
+serial_cell : (s : List ℕ) (q : ℕ) → q < 8 → (post_at (yard_in s) q).serial.0 ≡ get_or s (139 + 543 * q + 4) 0
 unfolding post_in
-serial_cell s q low = rw (at_yard s q low, part_get s (141 + 545 * q) 545 4 (omega arith))
+serial_cell s q low = rw (at_yard s q low, part_get s (139 + 543 * q) 543 4 (omega arith))
 
-module _ (s₀ air₀ s air : List ℕ) (n : ℕ) (l : List Single) (h₀ : length s₀ ≡ 4501) (h : length s ≡ 4501) (e : after n s air ≡ ran_in (here_in s₀ air₀) l)
+module _ (s₀ air₀ s air : List ℕ) (n : ℕ) (l : List Single) (h₀ : length s₀ ≡ 4483) (h : length s ≡ 4483) (e : after n s air ≡ ran_in (here_in s₀ air₀) l)
     (k : Same (singles_in (here_in s₀ air₀) l).held (held_in s₀)) where
   left : held_in s ≡ (singles_in (here_in s₀ air₀) l).held
   left = ap (λ (x : Here). x.held) (ran_left (here_in s₀ air₀) s air n l e)
@@ -101,7 +101,7 @@ module _ (s₀ air₀ s air : List ℕ) (n : ℕ) (l : List Single) (h₀ : leng
 
 -- ---- the hearings of first frames: serial by serial, lane by lane, post by post
 
-pub lane_more : (s₀ air₀ s air t exit : List ℕ) (p q n place k : ℕ) (r : hearings.HearAnswer) → length s₀ ≡ 4501 → length s ≡ 4501
+pub lane_more : (s₀ air₀ s air t exit : List ℕ) (p q n place k : ℕ) (r : hearings.HearAnswer) → length s₀ ≡ 4483 → length s ≡ 4483
     → after n s air ≡ ran_in (here_in s₀ air₀) (lane_hears (yard_in s₀).first p q n)
     → place ≡ order_place q (n + 1) → k ≡ get_or (part s 11 128) place 0 → after r t exit ≡ hears_in (held_in s) air p k
     → after (n + 1) t exit ≡ ran_in (here_in s₀ air₀) (lane_hears (yard_in s₀).first p q (n + 1))
@@ -116,12 +116,12 @@ lane_more s₀ air₀ s air t exit p q n place k r h₀ h e ep ek er =
 pub lane_own : (s air : List ℕ) (p q : ℕ) → q ≡ p → after {Answer = ℕ} 0 s air ≡ ran_in (here_in s air) (lane_heard (yard_in s) p q)
 lane_own s air p q e = rw (eq-eqb q p e) (none_ran s air)
 
-pub lane_other : (s air t exit : List ℕ) (p q n i : ℕ) → (q ≡ p → ⊥) → q < 8 → n ≡ get_or s (141 + 545 * q + 4) 0 → i ≡ n
+pub lane_other : (s air t exit : List ℕ) (p q n i : ℕ) → (q ≡ p → ⊥) → q < 8 → n ≡ get_or s (139 + 543 * q + 4) 0 → i ≡ n
     → after i t exit ≡ ran_in (here_in s air) (lane_hears (yard_in s).first p q i)
     → after n t exit ≡ ran_in (here_in s air) (lane_heard (yard_in s) p q)
 lane_other s air t exit p q n i ne low en ei e = rw (ne_eqb q p ne, serial_cell s q low, ← en) (rw ei at e)
 
-pub lanes_more : (s₀ air₀ s air t exit : List ℕ) (n m p q : ℕ) → length s₀ ≡ 4501 → length s ≡ 4501
+pub lanes_more : (s₀ air₀ s air t exit : List ℕ) (n m p q : ℕ) → length s₀ ≡ 4483 → length s ≡ 4483
     → after n s air ≡ ran_in (here_in s₀ air₀) (lanes_hears (yard_in s₀) p q) → after m t exit ≡ ran_in (here_in s air) (lane_heard (yard_in s) p q)
     → after (n + m) t exit ≡ ran_in (here_in s₀ air₀) (lanes_hears (yard_in s₀) p (q + 1))
 unfolding lanes_hears
@@ -131,18 +131,18 @@ lanes_more s₀ air₀ s air t exit n m p q h₀ h e er =
     let g = same_serial s₀ air₀ s air n (lanes_hears (yard_in s₀) p q) h₀ h e k q in
     rw (add-one q) (then (here_in s₀ air₀) s air t exit n m (lanes_hears (yard_in s₀) p q) (lane_heard (yard_in s₀) p q) e (rw (f, g) at er))
 
-pub posts_more : (s₀ air₀ s air t exit : List ℕ) (n m posts p : ℕ) → length s₀ ≡ 4501 → length s ≡ 4501 → posts ≡ (yard_in s₀).setup.posts
+pub posts_more : (s₀ air₀ s air t exit : List ℕ) (n m present p : ℕ) → length s₀ ≡ 4483 → length s ≡ 4483 → present ≡ (yard_in s₀).present
     → after n s air ≡ ran_in (here_in s₀ air₀) (posts_hear (yard_in s₀) p)
-    → after m t exit ≡ ran_in (here_in s air) (cond (has_lane posts p) (lanes_hears (yard_in s) p 8) [])
+    → after m t exit ≡ ran_in (here_in s air) (cond (has_lane present p) (lanes_hears (yard_in s) p 8) [])
     → after (n + m) t exit ≡ ran_in (here_in s₀ air₀) (posts_hear (yard_in s₀) (p + 1))
 unfolding posts_hear
-posts_more s₀ air₀ s air t exit n m posts p h₀ h ep e er =
+posts_more s₀ air₀ s air t exit n m present p h₀ h ep e er =
     let k = posts_keep (here_in s₀ air₀) (yard_in s₀) p in
     let f = same_first s₀ air₀ s air n (posts_hear (yard_in s₀) p) h₀ h e k in
     let g = same_serial s₀ air₀ s air n (posts_hear (yard_in s₀) p) h₀ h e k in
     let l = lanes_same (yard_in s) (yard_in s₀) p 8 f g in
     rw (add-one p)
-    (then (here_in s₀ air₀) s air t exit n m (posts_hear (yard_in s₀) p) (cond (has_lane (yard_in s₀).setup.posts p) (lanes_hears (yard_in s₀) p 8) []) e (rw (l, ep) at er))
+    (then (here_in s₀ air₀) s air t exit n m (posts_hear (yard_in s₀) p) (cond (has_lane (yard_in s₀).present p) (lanes_hears (yard_in s₀) p 8) []) e (rw (l, ep) at er))
 
 -- ---- beacons, and their hearings
 
@@ -160,12 +160,12 @@ module _ (h : Here) (s air t exit : List ℕ) (n m : ℕ) where
   heard_more sources from p i k b e ek eb er =
       rw (add-one i, ← ek, ← eb) (then h s air t exit n m (beacons_heard sources from p i) (cond (b && not (eqb i p)) (hear p k ∷ []) []) e er)
 
-  pub posts_heard : (posts sources from p : ℕ) → after n s air ≡ ran_in h (posts_hear_beacons posts sources from p)
-      → after m t exit ≡ ran_in (here_in s air) (cond (has_lane posts p) (beacons_heard sources from p 8) [])
-      → after (n + m) t exit ≡ ran_in h (posts_hear_beacons posts sources from (p + 1))
+  pub posts_heard : (present sources from p : ℕ) → after n s air ≡ ran_in h (posts_hear_beacons present sources from p)
+      → after m t exit ≡ ran_in (here_in s air) (cond (has_lane present p) (beacons_heard sources from p 8) [])
+      → after (n + m) t exit ≡ ran_in h (posts_hear_beacons present sources from (p + 1))
   unfolding posts_hear_beacons
-  posts_heard posts sources from p e er =
-      rw (add-one p) (then h s air t exit n m (posts_hear_beacons posts sources from p) (cond (has_lane posts p) (beacons_heard sources from p 8) []) e er)
+  posts_heard present sources from p e er =
+      rw (add-one p) (then h s air t exit n m (posts_hear_beacons present sources from p) (cond (has_lane present p) (beacons_heard sources from p 8) []) e er)
 
 -- the beacon of the next source: none is further on than the lanes are
 pub below_more : (sources from i k one : ℕ) (b : Bool) → k ≡ from + sources_below sources i → k ≤ from + i → b ≡ has_lane sources i → one ≡ cond b 1 0

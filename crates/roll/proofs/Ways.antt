@@ -30,26 +30,26 @@ use Rattle.roll.proofs.Turns.{sets_in, ran_left, then}
 -- ---- the list
 
 -- how many frames are on the air
-frames_held : (s : List ℕ) → length s ≡ 4501 → frames_in (held_in s) ≡ get_or s 2 0
+frames_held : (s : List ℕ) → length s ≡ 4483 → frames_in (held_in s) ≡ get_or s 2 0
 unfolding frames_in
 frames_held s h = ap frames_in (held_whole s h) ∙ frames_in_lem s
 
 -- its three parts
-pub all_ran : (s air s₁ air₁ s₂ air₂ s₃ air₃ : List ℕ) (posts sources from n₁ n₂ n₃ : ℕ) → length s ≡ 4501 → length s₁ ≡ 4501
-    → posts ≡ get_or s 0 0 → sources ≡ get_or s 1 0
+pub all_ran : (s air s₁ air₁ s₂ air₂ s₃ air₃ : List ℕ) (present sources from n₁ n₂ n₃ : ℕ) → length s ≡ 4483 → length s₁ ≡ 4483
+    → present ≡ get_or s 0 0 → sources ≡ get_or s 1 0
     → after n₁ s₁ air₁ ≡ ran_in (here_in s air) (posts_hear (yard_in s) 8) → from ≡ get_or s₁ 2 0
     → after n₂ s₂ air₂ ≡ ran_in (here_in s₁ air₁) (beacons_sent sources 8)
-    → after n₃ s₃ air₃ ≡ ran_in (here_in s₂ air₂) (posts_hear_beacons posts sources from 8)
+    → after n₃ s₃ air₃ ≡ ran_in (here_in s₂ air₂) (posts_hear_beacons present sources from 8)
     → after (n₁ + n₂ + n₃) s₃ air₃ ≡ ran_in (here_in s air) (roll_steps_in (held_in s) air)
 unfolding roll_steps_in
-all_ran s air s₁ air₁ s₂ air₂ s₃ air₃ posts sources from n₁ n₂ n₃ h h₁ ep es e₁ ef e₂ e₃ =
+all_ran s air s₁ air₁ s₂ air₂ s₃ air₃ present sources from n₁ n₂ n₃ h h₁ ep es e₁ ef e₂ e₃ =
     let w = held_whole s h in
     let f : frames_in (singles_in (here_in s air) (posts_hear (yard_in s) 8)).held ≡ from
     = sym (ap (λ (x : Here). frames_in x.held) (ran_left (here_in s air) s₁ air₁ n₁ (posts_hear (yard_in s) 8) e₁)) ∙ frames_held s₁ h₁ ∙ sym ef
     in
-    let b = then (here_in s₁ air₁) s₂ air₂ s₃ air₃ n₂ n₃ (beacons_sent sources 8) (posts_hear_beacons posts sources from 8) e₂ e₃ in
-    let c = then (here_in s air) s₁ air₁ s₃ air₃ n₁ (n₂ + n₃) (posts_hear (yard_in s) 8) (beacons_sent sources 8 ++ posts_hear_beacons posts sources from 8) e₁ b in
-    let d : roll_steps_in (held_in s) air ≡ posts_hear (yard_in s) 8 ++ (beacons_sent sources 8 ++ posts_hear_beacons posts sources from 8)
+    let b = then (here_in s₁ air₁) s₂ air₂ s₃ air₃ n₂ n₃ (beacons_sent sources 8) (posts_hear_beacons present sources from 8) e₂ e₃ in
+    let c = then (here_in s air) s₁ air₁ s₃ air₃ n₁ (n₂ + n₃) (posts_hear (yard_in s) 8) (beacons_sent sources 8 ++ posts_hear_beacons present sources from 8) e₁ b in
+    let d : roll_steps_in (held_in s) air ≡ posts_hear (yard_in s) 8 ++ (beacons_sent sources 8 ++ posts_hear_beacons present sources from 8)
     = rw (ep, es, ← (sets_in s).0, ← (sets_in s).1, w, ← (rw w at f))
     in
     rw (d, add_assoc) c
@@ -59,7 +59,7 @@ all_ran s air s₁ air₁ s₂ air₂ s₃ air₃ posts sources from n₁ n₂ n
 -- how many sources below k have one left
 unfoldable pub left_below : Yard → ℕ → ℕ
 left_below y zero = 0
-left_below y (suc i) = left_below y i + cond (has_lane y.setup.sources i && ltb (beacons_at y i) 128) 1 0
+left_below y (suc i) = left_below y i + cond (has_lane y.sources i && ltb (beacons_at y i) 128) 1 0
 
 -- one lane more, which counts one at most
 one_most : (b : Bool) (m : ℕ) → m ≡ cond b 1 0 → m ≤ 1
@@ -70,7 +70,7 @@ pub left_more : (s : List ℕ) (here : Bool) (n m i sources sent : ℕ) → n �
     → here ≡ has_lane sources i → m ≡ cond (here && ltb sent 128) 1 0 → (n + m ≡ left_below (yard_in s) (i + 1)) × (m ≤ 1)
 unfolding left_below
 left_more s here n m i sources sent e es et eh em =
-    let c : m ≡ cond (has_lane (yard_in s).setup.sources i && ltb (beacons_at (yard_in s) i) 128) 1 0 = rw ((sets_in s).1, beacons_in_lem s, ← es, ← et, ← eh) em in
+    let c : m ≡ cond (has_lane (yard_in s).sources i && ltb (beacons_at (yard_in s) i) 128) 1 0 = rw ((sets_in s).1, beacons_in_lem s, ← es, ← et, ← eh) em in
     (rw (add-one i, e, c), one_most (here && ltb sent 128) m em)
 
 or_no : (b : Bool) → (b || false) ≡ b
@@ -90,20 +90,20 @@ both_more f g = go (below_or_not f g)
 
 -- they are fewer than the sources just where some source has none left
 few_left : (y : Yard) (k : ℕ)
-    → (left_below y k ≤ lanes_below y.setup.sources k)
-    × (ltb (left_below y k) (lanes_below y.setup.sources k) ≡ any_below (λ (i : ℕ). has_lane y.setup.sources i && spent (beacons_at y i)) k)
+    → (left_below y k ≤ lanes_below y.sources k)
+    × (ltb (left_below y k) (lanes_below y.sources k) ≡ any_below (λ (i : ℕ). has_lane y.sources i && spent (beacons_at y i)) k)
 unfolding left_below lanes_below any_below
 few_left y zero = (omega arith, refl)
-few_left y (suc i) = go (has_lane y.setup.sources i) (below_or_not (beacons_at y i) 128) (few_left y i)
+few_left y (suc i) = go (has_lane y.sources i) (below_or_not (beacons_at y i) 128) (few_left y i)
   where
     f : ℕ
     f = left_below y i
 
     g : ℕ
-    g = lanes_below y.setup.sources i
+    g = lanes_below y.sources i
 
     some : Bool
-    some = any_below (λ (j : ℕ). has_lane y.setup.sources j && spent (beacons_at y j)) i
+    some = any_below (λ (j : ℕ). has_lane y.sources j && spent (beacons_at y j)) i
 
     go : (b : Bool) → (beacons_at y i < 128) ⊎ (128 ≤ beacons_at y i) → (f ≤ g) × (ltb f g ≡ some)
         → (f + cond (b && ltb (beacons_at y i) 128) 1 0 ≤ g + cond b 1 0)
@@ -118,7 +118,7 @@ few_left y (suc i) = go (has_lane y.setup.sources i) (below_or_not (beacons_at y
 
 pub spent_told : (s : List ℕ) (n sources : ℕ) → n ≡ left_below (yard_in s) 8 → sources ≡ get_or s 1 0 → ltb n (ones (sources % 256)) ≡ source_spent (yard_in s)
 unfolding source_spent
-spent_told s n sources e es = rw (e, es, ← (sets_in s).1, ← lanes_ones_256 (yard_in s).setup.sources) (few_left (yard_in s) 8).1
+spent_told s n sources e es = rw (e, es, ← (sets_in s).1, ← lanes_ones_256 (yard_in s).sources) (few_left (yard_in s) 8).1
 
 -- ---- the call
 
@@ -146,16 +146,16 @@ ran held exit air air' n e er = (
 
 module _ (s air : List ℕ) where
   -- a state of another length
-  pub call_12 : (length s ≡ 4501 → ⊥) → Promised (calling.TheVariants.Refused 12) (held_in s) air (held_in s) air
+  pub call_12 : (length s ≡ 4483 → ⊥) → Promised (calling.TheVariants.Refused 12) (held_in s) air (held_in s) air
   unfolding roll_refusal_in
   call_12 h = refused (held_in s) air 12 (omega arith) (rw (held_other s h))
 
   -- an air of another length
-  pub call_13 : length s ≡ 4501 → (length air ≡ 65536 → ⊥) → Promised (calling.TheVariants.Refused 13) (held_in s) air (held_in s) air
+  pub call_13 : length s ≡ 4483 → (length air ≡ 65536 → ⊥) → Promised (calling.TheVariants.Refused 13) (held_in s) air (held_in s) air
   unfolding roll_refusal_in roll_refusal
   call_13 h bad = refused (held_in s) air 13 (omega arith) (rw (held_whole s h, ne_eqb (length air) 65536 bad))
 
-  module _ (told : Bool) (h : length s ≡ 4501) (good : length air ≡ 65536) (es : told ≡ source_spent (yard_in s)) where
+  module _ (told : Bool) (h : length s ≡ 4483) (good : length air ≡ 65536) (es : told ≡ source_spent (yard_in s)) where
     -- some source has no beacon left
     pub call_27 : told ≡ true → Promised (calling.TheVariants.Refused 27) (held_in s) air (held_in s) air
     unfolding roll_refusal_in roll_refusal

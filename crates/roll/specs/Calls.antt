@@ -22,7 +22,7 @@ roll_steps_in (other cells) air = []
 roll_steps_in (whole y knowns) air =
     let hearings = posts_hear y 8 in
     let from = frames_in (singles_in (record { held = whole y knowns; air = air }) hearings).held in
-    hearings ++ (beacons_sent y.setup.sources 8 ++ posts_hear_beacons y.setup.posts y.setup.sources from 8)
+    hearings ++ (beacons_sent y.sources 8 ++ posts_hear_beacons y.present y.sources from 8)
 
 -- a part of it, which the loops run: what post p hears of lane q
 abbrev pub lane_heard : Yard → ℕ → ℕ → List Single

@@ -23,7 +23,7 @@ lanes_hears y p (suc q) = lanes_hears y p q ++ cond (eqb q p) [] (lane_hears y.f
 -- the posts below k
 unfoldable pub posts_hear : Yard → ℕ → List Single
 posts_hear y zero = []
-posts_hear y (suc p) = posts_hear y p ++ cond (has_lane y.setup.posts p) (lanes_hears y p 8) []
+posts_hear y (suc p) = posts_hear y p ++ cond (has_lane y.present p) (lanes_hears y p 8) []
 
 -- ---- "Then each source in rising order sends a beacon."
 
@@ -47,9 +47,9 @@ beacons_heard sources from p (suc i) =
 
 -- the posts below k
 unfoldable pub posts_hear_beacons : ℕ → ℕ → ℕ → ℕ → List Single
-posts_hear_beacons posts sources from zero = []
-posts_hear_beacons posts sources from (suc p) =
-    posts_hear_beacons posts sources from p ++ cond (has_lane posts p) (beacons_heard sources from p 8) []
+posts_hear_beacons present sources from zero = []
+posts_hear_beacons present sources from (suc p) =
+    posts_hear_beacons present sources from p ++ cond (has_lane present p) (beacons_heard sources from p 8) []
 
 -- ---- the call
 
@@ -58,11 +58,11 @@ unfoldable pub roll_steps : World → List Single
 roll_steps w =
     let hearings = posts_hear w.yard 8 in
     let from = (singles w hearings).yard.frames in
-    hearings ++ (beacons_sent w.yard.setup.sources 8 ++ posts_hear_beacons w.yard.setup.posts w.yard.setup.sources from 8)
+    hearings ++ (beacons_sent w.yard.sources 8 ++ posts_hear_beacons w.yard.present w.yard.sources from 8)
 
 -- "some source has none left": only the sources are asked, a *relay* or *dest* may have none left
 unfoldable pub source_spent : Yard → Bool
-source_spent y = any_below (λ (i : ℕ). has_lane y.setup.sources i && spent (beacons_at y i)) 8
+source_spent y = any_below (λ (i : ℕ). has_lane y.sources i && spent (beacons_at y i)) 8
 
 -- 13; 27: K2, "A roll call is refused with 27 when some source has none left."
 unfoldable pub roll_refusal : World → ℕ

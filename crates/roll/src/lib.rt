@@ -54,38 +54,38 @@ fn source_spent(state: &[u16]) -> bool
 
 // The call's single steps, one after another; each part answers how many it ran.
 fn run_steps(state: &mut [u16], air: &mut [u8]) -> u32
-    requires* { do ⌜ (← ⟦state.len()⟧) ≡ 4501 ⌝ }
+    requires* { do ⌜ (← ⟦state.len()⟧) ≡ 4483 ⌝ }
     ensures { after result state.new air.new ≡ ran_in (here_in state.old air.old) (roll_steps_in (held_in state.old) air.old) }
 {
-    let posts = row::get(state, state::POSTS);
+    let present = row::get(state, state::PRESENT);
     let sources = row::get(state, state::SOURCES);
-    let heard = hear_orders(state, air, posts);
+    let heard = hear_orders(state, air, present);
     let from = row::get(state, state::FRAMES);
     let sent = send_beacons(state, air, sources);
-    let done = hear_beacons(state, air, posts, sources, from);
+    let done = hear_beacons(state, air, present, sources, from);
     heard + sent + done
 }
 
 // Each post in rising lane order hears the first frame of every order of the other lanes.
-fn hear_orders(state: &mut [u16], air: &mut [u8], posts: u16) -> u32
-    requires* { do ⌜ ((← ⟦state.len()⟧) ≡ 4501) × (posts ≡ get_or state.old 0 0) ⌝ }
+fn hear_orders(state: &mut [u16], air: &mut [u8], present: u16) -> u32
+    requires* { do ⌜ ((← ⟦state.len()⟧) ≡ 4483) × (present ≡ get_or state.old 0 0) ⌝ }
     ensures air_after { after result state.new air.new ≡ ran_in (here_in state.old air.old) (posts_hear (yard_in state.old) 8) }
     ensures bound { result ≤ 4194240 }
 {
     let mut steps = 0u32;
     for p in 0..8u8 {
-        steps = steps + hear_lanes(state, air, posts, p);
+        steps = steps + hear_lanes(state, air, present, p);
     }
     steps
 }
 
 // The post of lane p, if there is one, hears those of each other lane.
-fn hear_lanes(state: &mut [u16], air: &mut [u8], posts: u16, p: u8) -> u32
-    requires* { do ⌜ (← ⟦state.len()⟧) ≡ 4501 ⌝ }
-    ensures air_after { after result state.new air.new ≡ ran_in (here_in state.old air.old) (cond (has_lane posts p) (lanes_hears (yard_in state.old) p 8) []) }
+fn hear_lanes(state: &mut [u16], air: &mut [u8], present: u16, p: u8) -> u32
+    requires* { do ⌜ (← ⟦state.len()⟧) ≡ 4483 ⌝ }
+    ensures air_after { after result state.new air.new ≡ ran_in (here_in state.old air.old) (cond (has_lane present p) (lanes_hears (yard_in state.old) p 8) []) }
     ensures bound { result ≤ 524280 }
 {
-    if !cells::has(posts, p as u16) {
+    if !cells::has(present, p as u16) {
         return 0;
     }
     let mut steps = 0u32;
@@ -97,7 +97,7 @@ fn hear_lanes(state: &mut [u16], air: &mut [u8], posts: u16, p: u8) -> u32
 
 // It hears those of lane q, if that is another lane, serials rising.
 fn hear_lane(state: &mut [u16], air: &mut [u8], p: u8, q: u8) -> u32
-    requires* { do ⌜ ((← ⟦state.len()⟧) ≡ 4501) × (q < 8) ⌝ }
+    requires* { do ⌜ ((← ⟦state.len()⟧) ≡ 4483) × (q < 8) ⌝ }
     ensures air_after { after result state.new air.new ≡ ran_in (here_in state.old air.old) (lane_heard (yard_in state.old) p q) }
     ensures bound { result ≤ 65535 }
 {
@@ -143,13 +143,13 @@ fn send_beacon(state: &mut [u16], air: &mut [u8], sources: u16, i: u8) -> u32
 }
 
 // Each post in rising order hears those beacons except its own; the first of them is frame `from`.
-fn hear_beacons(state: &mut [u16], air: &mut [u8], posts: u16, sources: u16, from: u16) -> u32
-    ensures air_after { after result state.new air.new ≡ ran_in (here_in state.old air.old) (posts_hear_beacons posts sources from 8) }
+fn hear_beacons(state: &mut [u16], air: &mut [u8], present: u16, sources: u16, from: u16) -> u32
+    ensures air_after { after result state.new air.new ≡ ran_in (here_in state.old air.old) (posts_hear_beacons present sources from 8) }
     ensures bound { result ≤ 64 }
 {
     let mut steps = 0u32;
     for p in 0..8u8 {
-        steps = steps + hear_sources(state, air, posts, sources, from, p);
+        steps = steps + hear_sources(state, air, present, sources, from, p);
     }
     steps
 }
@@ -158,15 +158,15 @@ fn hear_beacons(state: &mut [u16], air: &mut [u8], posts: u16, sources: u16, fro
 fn hear_sources(
     state: &mut [u16],
     air: &mut [u8],
-    posts: u16,
+    present: u16,
     sources: u16,
     from: u16,
     p: u8,
 ) -> u32
-    ensures air_after { after result state.new air.new ≡ ran_in (here_in state.old air.old) (cond (has_lane posts p) (beacons_heard sources from p 8) []) }
+    ensures air_after { after result state.new air.new ≡ ran_in (here_in state.old air.old) (cond (has_lane present p) (beacons_heard sources from p 8) []) }
     ensures bound { result ≤ 8 }
 {
-    if !cells::has(posts, p as u16) {
+    if !cells::has(present, p as u16) {
         return 0;
     }
     let mut steps = 0u32;

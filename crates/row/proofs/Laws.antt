@@ -71,27 +71,27 @@ cell_apart l a n i v k s = go (ltb i n) (leb (a + n) k) refl refl s
         rw e (get_or-set_other l (a + i) k v 0 (λ (q : k ≡ a + i). omega (arith, q, leb-true (k + 1) a z)))
 
 -- a number is written where the row has its cell
-module _ (l : List ℕ) (v : ℕ) (h : 545 ≤ length l) where
+module _ (l : List ℕ) (v : ℕ) (h : 543 ≤ length l) where
   pub put_clock : post_in (set l 3 v) ≡ with_clock (post_in l) v (post_in l).serial.0 (post_in l).table
   unfolding post_in put_in
   put_clock =
       let cell = cell_apart l 3 1 0 v in
       let other = part_apart l 3 1 0 v in
-      rw (cell 0 refl, cell 542 refl, cell 543 refl, cell 544 refl, cell 1 refl, cell 2 refl, get_or-set_same l 3 v 0 (omega arith), cell 4 refl, cell 5 refl, other 6 8 refl, other 22 136 refl, other 158 128 refl, other 286 128 refl, other 414 128 refl)
+      rw (cell 0 refl, cell 542 refl, cell 1 refl, cell 2 refl, get_or-set_same l 3 v 0 (omega arith), cell 4 refl, cell 5 refl, other 6 8 refl, other 22 136 refl, other 158 128 refl, other 286 128 refl, other 414 128 refl)
 
   pub put_serial : post_in (set l 4 v) ≡ with_clock (post_in l) (post_in l).clock.0 v (post_in l).table
   unfolding post_in put_in
   put_serial =
       let cell = cell_apart l 4 1 0 v in
       let other = part_apart l 4 1 0 v in
-      rw (cell 0 refl, cell 542 refl, cell 543 refl, cell 544 refl, cell 1 refl, cell 2 refl, cell 3 refl, get_or-set_same l 4 v 0 (omega arith), cell 5 refl, other 6 8 refl, other 22 136 refl, other 158 128 refl, other 286 128 refl, other 414 128 refl)
+      rw (cell 0 refl, cell 542 refl, cell 1 refl, cell 2 refl, cell 3 refl, get_or-set_same l 4 v 0 (omega arith), cell 5 refl, other 6 8 refl, other 22 136 refl, other 158 128 refl, other 286 128 refl, other 414 128 refl)
 
   pub put_logged : post_in (set l 5 v) ≡ with_log (post_in l) (post_in l).log v
   unfolding post_in put_in
   put_logged =
       let cell = cell_apart l 5 1 0 v in
       let other = part_apart l 5 1 0 v in
-      rw (cell 0 refl, cell 542 refl, cell 543 refl, cell 544 refl, cell 1 refl, cell 2 refl, cell 3 refl, cell 4 refl, get_or-set_same l 5 v 0 (omega arith), other 6 8 refl, other 22 136 refl, other 158 128 refl, other 286 128 refl, other 414 128 refl)
+      rw (cell 0 refl, cell 542 refl, cell 1 refl, cell 2 refl, cell 3 refl, cell 4 refl, get_or-set_same l 5 v 0 (omega arith), other 6 8 refl, other 22 136 refl, other 158 128 refl, other 286 128 refl, other 414 128 refl)
 
 -- ---- the fields
 
@@ -101,35 +101,35 @@ module _ (l : List ℕ) (i v : ℕ) where
   put_last =
       let cell = cell_apart l 6 8 i v in
       let other = part_apart l 6 8 i v in
-      rw (cell 0 refl, cell 542 refl, cell 543 refl, cell 544 refl, cell 1 refl, cell 2 refl, cell 3 refl, cell 4 refl, cell 5 refl, part_put, other 22 136 refl, other 158 128 refl, other 286 128 refl, other 414 128 refl)
+      rw (cell 0 refl, cell 542 refl, cell 1 refl, cell 2 refl, cell 3 refl, cell 4 refl, cell 5 refl, part_put, other 22 136 refl, other 158 128 refl, other 286 128 refl, other 414 128 refl)
 
   pub put_table : post_in (put_in l 22 136 i v) ≡ with_table (post_in l) (set (post_in l).table i v)
   unfolding post_in
   put_table =
       let cell = cell_apart l 22 136 i v in
       let other = part_apart l 22 136 i v in
-      rw (cell 0 refl, cell 542 refl, cell 543 refl, cell 544 refl, cell 1 refl, cell 2 refl, cell 3 refl, cell 4 refl, cell 5 refl, other 6 8 refl, part_put, other 158 128 refl, other 286 128 refl, other 414 128 refl)
+      rw (cell 0 refl, cell 542 refl, cell 1 refl, cell 2 refl, cell 3 refl, cell 4 refl, cell 5 refl, other 6 8 refl, part_put, other 158 128 refl, other 286 128 refl, other 414 128 refl)
 
   pub put_stamps : post_in (put_in l 158 128 i v) ≡ with_orders (post_in l) (post_in l).last (set (post_in l).stamps i v) (post_in l).words
   unfolding post_in
   put_stamps =
       let cell = cell_apart l 158 128 i v in
       let other = part_apart l 158 128 i v in
-      rw (cell 0 refl, cell 542 refl, cell 543 refl, cell 544 refl, cell 1 refl, cell 2 refl, cell 3 refl, cell 4 refl, cell 5 refl, other 6 8 refl, other 22 136 refl, part_put, other 286 128 refl, other 414 128 refl)
+      rw (cell 0 refl, cell 542 refl, cell 1 refl, cell 2 refl, cell 3 refl, cell 4 refl, cell 5 refl, other 6 8 refl, other 22 136 refl, part_put, other 286 128 refl, other 414 128 refl)
 
   pub put_words : post_in (put_in l 286 128 i v) ≡ with_orders (post_in l) (post_in l).last (post_in l).stamps (set (post_in l).words i v)
   unfolding post_in
   put_words =
       let cell = cell_apart l 286 128 i v in
       let other = part_apart l 286 128 i v in
-      rw (cell 0 refl, cell 542 refl, cell 543 refl, cell 544 refl, cell 1 refl, cell 2 refl, cell 3 refl, cell 4 refl, cell 5 refl, other 6 8 refl, other 22 136 refl, other 158 128 refl, part_put, other 414 128 refl)
+      rw (cell 0 refl, cell 542 refl, cell 1 refl, cell 2 refl, cell 3 refl, cell 4 refl, cell 5 refl, other 6 8 refl, other 22 136 refl, other 158 128 refl, part_put, other 414 128 refl)
 
   pub put_log : post_in (put_in l 414 128 i v) ≡ with_log (post_in l) (set (post_in l).log i v) (post_in l).logged
   unfolding post_in
   put_log =
       let cell = cell_apart l 414 128 i v in
       let other = part_apart l 414 128 i v in
-      rw (cell 0 refl, cell 542 refl, cell 543 refl, cell 544 refl, cell 1 refl, cell 2 refl, cell 3 refl, cell 4 refl, cell 5 refl, other 6 8 refl, other 22 136 refl, other 158 128 refl, other 286 128 refl, part_put)
+      rw (cell 0 refl, cell 542 refl, cell 1 refl, cell 2 refl, cell 3 refl, cell 4 refl, cell 5 refl, other 6 8 refl, other 22 136 refl, other 158 128 refl, other 286 128 refl, part_put)
 
 -- ---- the parts of a step
 
@@ -137,11 +137,11 @@ pub tick_row : (l a b m : List ℕ) (lane place serial clock : ℕ) → lane ≡
     → m ≡ put_in b 22 136 place clock → m ≡ ticked_row l serial clock
 tick_row l a b m lane place serial clock q e ea eb em = rw (em, eb, ea, e, q)
 
-pub tick_post : (l m : List ℕ) (serial clock : ℕ) → 545 ≤ length l → m ≡ ticked_row l serial clock → post_in m ≡ ticked (post_in l) serial clock
+pub tick_post : (l m : List ℕ) (serial clock : ℕ) → 543 ≤ length l → m ≡ ticked_row l serial clock → post_in m ≡ ticked (post_in l) serial clock
 unfolding ticked with_stamp
 tick_post l m serial clock h e =
     let a : List ℕ = set l 3 clock in
-    let ha : 545 ≤ length a = rw length-set h in
+    let ha : 543 ≤ length a = rw length-set h in
     rw (e, put_table (set a 4 serial) (entry_place (post_in l).lane serial) clock, put_serial a serial ha, put_clock l clock h)
 
 -- what is known stays where another part is written, and what is past the record where the record is
@@ -153,11 +153,11 @@ pub same_known_cell : (l m : List ℕ) (k v : ℕ) → apart k 1 14 8 ≡ true �
 unfolding known_in put_in
 same_known_cell l m k v h z e = rw (e, z) (part_apart l k 1 0 v 14 8 h)
 
-pub same_past_cell : (l m : List ℕ) (k v : ℕ) → k < 545 → m ≡ set l k v → past_in m ≡ past_in l
+pub same_past_cell : (l m : List ℕ) (k v : ℕ) → k < 543 → m ≡ set l k v → past_in m ≡ past_in l
 unfolding past_in
 same_past_cell l m k v h e = rw (e, drop-set-lt)
 
-pub same_past : (l m : List ℕ) (a n i v : ℕ) → a + n ≤ 545 → m ≡ put_in l a n i v → past_in m ≡ past_in l
+pub same_past : (l m : List ℕ) (a n i v : ℕ) → a + n ≤ 543 → m ≡ put_in l a n i v → past_in m ≡ past_in l
 unfolding put_in
 same_past l m a n i v h e = go (ltb i n) refl
   where
@@ -193,6 +193,6 @@ tick_past l m serial clock e =
     ∙ same_past_cell (set l 3 clock) (set (set l 3 clock) 4 serial) 4 serial (omega arith) refl
     ∙ same_past_cell l (set l 3 clock) 3 clock (omega arith) refl
 
-pub logged_put : (l m : List ℕ) (v : ℕ) → 545 ≤ length l → m ≡ set l 5 v
+pub logged_put : (l m : List ℕ) (v : ℕ) → 543 ≤ length l → m ≡ set l 5 v
     → (post_in m ≡ with_log (post_in l) (post_in l).log v) × (known_in m ≡ known_in l) × (past_in m ≡ past_in l)
 logged_put l m v h e = (rw e (put_logged l v h), same_known_cell l m 5 v refl refl e, same_past_cell l m 5 v (omega arith) e)

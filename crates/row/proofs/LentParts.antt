@@ -57,9 +57,9 @@ module _ (s : List ℕ) (a n : ℕ) (ys : List ℕ) (h : a + n ≤ length s) (l 
   unfolding part
   part_after b m k = ap (take m) (after b k)
 
-  pub past_other : a + n ≤ 545 → past_in (put_part s a n ys) ≡ past_in s
+  pub past_other : a + n ≤ 543 → past_in (put_part s a n ys) ≡ past_in s
   unfolding past_in
-  past_other k = after 545 k
+  past_other k = after 543 k
 
   -- the m elements from b on, where they are apart from those that were written
   pub part_other : (b m : ℕ) → apart a n b m ≡ true → part (put_part s a n ys) b m ≡ part s b m

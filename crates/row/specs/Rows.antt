@@ -1,4 +1,4 @@
--- A post's record in one row of 545 cells of 16 bits. Assumes nothing.
+-- A post's record in one row of 543 cells of 16 bits. Assumes nothing.
 -- Any row is some record: a cell past its end is 0, and a part past its end is shorter.
 use Rattle.std.specs.Prelude.{ℕ, ◌+◌, cond, List, ltb, get_or, set, take, drop}
 use Rattle.cells.specs.Tables.{entry_place}
@@ -17,8 +17,8 @@ put_in row first n i v = cond (ltb i n) (set row (first + i) v) row
 unfoldable pub post_in : List ℕ → Post
 post_in row = record {
   lane = get_or row 0 0;
-  setup = record { posts = get_or row 544 0; sources = get_or row 1 0; dests = get_or row 2 0; entries = get_or row 542 0 };
-  spare = get_or row 543 0;
+  sources = get_or row 1 0;
+  dests = get_or row 2 0;
   clock = record { 0 = get_or row 3 0 };
   serial = record { 0 = get_or row 4 0 };
   logged = get_or row 5 0;
@@ -27,17 +27,16 @@ post_in row = record {
   stamps = part row 158 128;
   words = part row 286 128;
   log = part row 414 128;
+  posts = get_or row 542 0;
 }
 
 -- its numbers alone
 abbrev pub numbers_of : Post → Numbers
 numbers_of p = record {
   lane = p.lane;
-  posts = p.setup.posts;
-  sources = p.setup.sources;
-  dests = p.setup.dests;
-  entries = p.setup.entries;
-  spare = p.spare;
+  posts = p.posts;
+  sources = p.sources;
+  dests = p.dests;
   clock = p.clock;
   serial = record { 0 = p.serial.0 };
   logged = p.logged;
@@ -49,18 +48,19 @@ known_in row = part row 14 8
 
 -- the cells past the record, which no step touches: with the record and what is known they are the whole row (`row_told`)
 unfoldable pub past_in : List ℕ → List ℕ
-past_in row = drop 545 row
+past_in row = drop 543 row
 
 -- the row with another own serial and clock, and with the clock as the post's own entry of the table
 abbrev pub ticked_row : List ℕ → ℕ → ℕ → List ℕ
 ticked_row row serial clock = put_in (set (set row 3 clock) 4 serial) 22 136 (entry_place (post_in row).lane serial) clock
 
--- p with another newest_stamp_lem table
+-- p with another newest-stamp table
 abbrev pub with_table : Post → List ℕ → Post
 with_table p table = record {
   lane = p.lane;
-  setup = p.setup;
-  spare = p.spare;
+  posts = p.posts;
+  sources = p.sources;
+  dests = p.dests;
   clock = p.clock;
   serial = p.serial;
   last = p.last;

@@ -13,15 +13,13 @@ use frame::{Frame, Serial, Stamp};
 #[derive(Drop)]
 pub struct SerialCell(pub u16);
 
-// The numbers of a record: lane, what line 1 says, the spare byte, clock, own serial, and the length of the log.
+// The numbers of a record: lane, sets of lanes, clock, own serial, and the length of the log.
 #[derive(Drop)]
 pub struct Numbers {
     pub lane: u16,
     pub posts: u16,
     pub sources: u16,
     pub dests: u16,
-    pub entries: u16,
-    pub spare: u16,
     pub clock: Stamp,
     pub serial: SerialCell,
     pub logged: u16,
@@ -66,11 +64,7 @@ pub const WORDS: u16 = STAMPS + ORDERS;
 
 pub const LOG: u16 = WORDS + ORDERS;
 
-pub const ENTRIES_LIMIT: usize = (LOG + ORDERS) as usize;
-
-pub const SPARE: usize = ENTRIES_LIMIT + 1;
-
-pub const POSTS: usize = SPARE + 1;
+pub const POSTS: usize = (LOG + ORDERS) as usize;
 
 pub const LENGTH: usize = POSTS + 1;
 
@@ -117,8 +111,6 @@ pub fn read_numbers(row: &[u16]) -> Numbers
         posts: get(row, POSTS),
         sources: get(row, SOURCES),
         dests: get(row, DESTS),
-        entries: get(row, ENTRIES_LIMIT),
-        spare: get(row, SPARE),
         clock: Stamp(get(row, CLOCK)),
         serial: SerialCell(get(row, SERIAL)),
         logged: get(row, LOGGED),
@@ -154,7 +146,7 @@ pub fn stamp_at(row: &[u16], place: usize) -> Stamp
     Stamp(get_in(row, STAMPS, ORDERS, place))
 }
 
-// Where entry (lane, serial) stands in the newest_stamp_lem table: past its end for a serial over 16.
+// Where entry (lane, serial) stands in the newest-stamp table: past its end for a serial over 16.
 fn entry_place_lem(lane: u16, serial: SerialCell) -> usize
     ensures { result ≡ entry_place lane serial.0 }
 {

@@ -9,7 +9,7 @@ use Rattle.text.specs.Decimal.{given}
 use Rattle.text.specs.Writing.{Out, wrote}
 use Rattle.text.proofs.Laws.{wrote_append}
 use Rattle.lines.specs.declared.Line.{Line}
-use Rattle.lines.specs.Lines.{line_at}
+use Rattle.lines.specs.Lines.{line_at, next_of}
 use Rattle.written.proofs.LineLists.{lines_none, lines_more}
 use Rattle.yard.specs.InState.{Here}
 use Rattle.meaning.specs.Texts.{refused_text}
@@ -55,7 +55,7 @@ refused_one o h line l ls = sym (wrote_append o _ _)
 -- one line more
 pub left_more : (s : List ℕ) (h₀ : Here) (from : ℕ) (o₀ : Out) (h h' : Here) (at line next n : ℕ) (o p : Out) (t t' : ℕ) (l : Line)
     → at < length s → l ≡ line_at s at → n ≡ refusal_in h (step_of l) → h' ≡ run_in h (step_of l) → t' ≡ told_in h (step_of l)
-    → p ≡ wrote o (given (not (eqb n 0)) (refused_text (line + 1) n)) → next ≡ l.next
+    → p ≡ wrote o (given (not (eqb n 0)) (refused_text (line + 1) n)) → next ≡ next_of s l
     → Left s h₀ from o₀ h at line o t → Left s h₀ from o₀ h' next (line + 1) p t'
 left_more s h₀ from o₀ h h' at line next n o p t t' l k el en eh et ep ef left =
     let lines = lines_more s at k in

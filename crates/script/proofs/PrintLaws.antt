@@ -20,23 +20,23 @@ not-true true e = sym e
 not-true false e = refl
 
 -- a lane without a post prints nothing
-pub row_none : (o : Out) (posts lane : ℕ) (p : Post) (b : Bool) → b ≡ has_lane posts lane → not b ≡ true
-    → o ≡ wrote o (cond (has_lane posts lane) (post_text lane p) [])
+pub row_none : (o : Out) (present lane : ℕ) (p : Post) (b : Bool) → b ≡ has_lane present lane → not b ≡ true
+    → o ≡ wrote o (cond (has_lane present lane) (post_text lane p) [])
 unfolding wrote
-row_none o posts lane p b e t = rw (sym e ∙ not-true b t)
+row_none o present lane p b e t = rw (sym e ∙ not-true b t)
 
 -- one with a post prints its line
-pub row_printed : (o q : Out) (posts lane : ℕ) (p : Post) (b : Bool) → b ≡ has_lane posts lane → not b ≡ false
-    → q ≡ wrote o (post_text lane p) → q ≡ wrote o (cond (has_lane posts lane) (post_text lane p) [])
-row_printed o q posts lane p b e t h = rw (sym e ∙ not-false b t) h
+pub row_printed : (o q : Out) (present lane : ℕ) (p : Post) (b : Bool) → b ≡ has_lane present lane → not b ≡ false
+    → q ≡ wrote o (post_text lane p) → q ≡ wrote o (cond (has_lane present lane) (post_text lane p) [])
+row_printed o q present lane p b e t h = rw (sym e ∙ not-false b t) h
 
 -- after the lines of the lanes below it
-posts_is : (state : List ℕ) → (yard_in state).setup.posts ≡ get_or state 0 0
+present_is : (state : List ℕ) → (yard_in state).present ≡ get_or state 0 0
 unfolding yard_in
-posts_is state = refl
+present_is state = refl
 
-pub posts_more : (o p q : Out) (state : List ℕ) (posts lane : ℕ) → lane < 8 → posts ≡ get_or state 0 0 → p ≡ wrote o (posts_text (yard_in state) lane)
-    → q ≡ wrote p (cond (has_lane posts lane) (post_text lane (post_in (row_of state lane))) [])
+pub posts_more : (o p q : Out) (state : List ℕ) (present lane : ℕ) → lane < 8 → present ≡ get_or state 0 0 → p ≡ wrote o (posts_text (yard_in state) lane)
+    → q ≡ wrote p (cond (has_lane present lane) (post_text lane (post_in (row_of state lane))) [])
     → q ≡ wrote o (posts_text (yard_in state) (lane + 1))
 unfolding posts_text
-posts_more o p q state posts lane low e f g = rw (add-one lane, at_yard state lane low) (next o _ _ f (rw (e ∙ sym (posts_is state)) at g))
+posts_more o p q state present lane low e f g = rw (add-one lane, at_yard state lane low) (next o _ _ f (rw (e ∙ sym (present_is state)) at g))

@@ -2,8 +2,8 @@
 use Rattle.std.specs.Prelude.{ℕ, ◌+◌, not, List, [], ◌∷◌, ◌++◌, eqb, length}
 use Rattle.text.specs.Decimal.{given}
 use Rattle.lines.specs.declared.Line.{Line}
-use Rattle.lines.specs.Lines.{first_line, lines_from, later_lines}
-use Rattle.state.specs.Yards.{yard_made}
+use Rattle.lines.specs.declared.Line.TheVariants.{Yard, Order, Hear, Beacon, Roll, Refused}
+use Rattle.lines.specs.Lines.{line_at, lines_from}
 use Rattle.state.specs.States.{Held, whole, other}
 use Rattle.state.specs.Fresh.{nothing_known}
 use Rattle.yard.specs.InState.{Here}
@@ -11,7 +11,8 @@ use Rattle.roll.specs.Runs.{Step}
 use Rattle.roll.specs.Answers.{answer_number}
 use Rattle.roll.specs.Calls.{answers_in, step_in}
 use Rattle.meaning.specs.Texts.{refused_text}
-use Rattle.meaning.specs.Script.{step_of}
+use Rattle.meaning.specs.Script.{step_of, yard_of, step_lines}
+use Rattle.script.specs.declared.Sets.{Sets}
 use Rattle.script.specs.Told.{answer_told, no_step}
 
 -- steps run one after another
@@ -50,7 +51,7 @@ rest s from = lines_from s from (length s)
 
 -- line 1 makes a fresh yard, of which nothing is known
 abbrev pub script_here : List ℕ → List ℕ → Here
-script_here s air = record { held = whole (yard_made (first_line s).setup).yard nothing_known; air = air }
+script_here s air = record { held = whole (yard_of (line_at s 0)) nothing_known; air = air }
 
 -- what the posts know of their logs
 unfoldable pub knowns_of : Held → List (List ℕ)
@@ -59,4 +60,13 @@ knowns_of (other cells) = []
 
 -- after its last line
 unfoldable pub script_knowns : List ℕ → List ℕ → List (List ℕ)
-script_knowns s air = knowns_of (here_after (script_here s air) (later_lines s)).held
+script_knowns s air = knowns_of (here_after (script_here s air) (step_lines s)).held
+
+-- ---- for contracts of private functions: the sets of lanes that line 1 asks for
+abbrev pub sets_of : Line → Sets
+sets_of (Yard posts sources dests next) = record { present = posts; sources = sources; dests = dests }
+sets_of (Order lane word next) = record { present = 0; sources = 0; dests = 0 }
+sets_of (Hear lane frame next) = record { present = 0; sources = 0; dests = 0 }
+sets_of (Beacon lane next) = record { present = 0; sources = 0; dests = 0 }
+sets_of (Roll next) = record { present = 0; sources = 0; dests = 0 }
+sets_of (Refused number) = record { present = 0; sources = 0; dests = 0 }

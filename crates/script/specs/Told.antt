@@ -28,7 +28,7 @@ answer_told (called a) = roll_told a
 abbrev pub no_step : ℕ
 no_step = told 0 7 0 0 0 0
 
--- code 9, a script that is refused by 1 to 5 or 33: the number, and the line above the stamp's bits; code 10, a state of another length
+-- code 9, a script that is refused by 1 to 5: the number, and the line above the stamp's bits; code 10, a state of another length
 abbrev pub bad_script : ℕ → ℕ → ℕ
 bad_script line number = told number 9 0 0 0 line
 

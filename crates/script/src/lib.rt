@@ -5,14 +5,22 @@ mod posts;
 
 ghost use Rattle.std.specs.Prelude.{◌≡◌, ◌≤◌, length};
 ghost use Rattle.text.specs.Writing.{out, wrote};
-ghost use Rattle.lines.specs.Lines.{later_lines, judged};
+ghost use Rattle.lines.specs.Lines.{judged};
 ghost use Rattle.state.specs.States.{held_in};
 ghost use Rattle.yard.specs.InState.{here_in};
-ghost use Rattle.meaning.specs.Script.{script_world, script_text};
+ghost use Rattle.meaning.specs.Script.{step_lines, script_world, script_text};
 ghost use Rattle.script.specs.Run.{bytes_printed, output_after, air_left};
 ghost use Rattle.script.specs.Told.{no_step};
 ghost use Rattle.script.specs.State.{state_told, state_held, state_air};
 ghost use Rattle.script.specs.OnState.{rest, here_after, refused_in, last_in, script_here};
+
+// The lanes that have a post, the sources and the destinations among them.
+#[derive(Drop)]
+pub(crate) struct Sets {
+    pub present: u8,
+    pub sources: u8,
+    pub dests: u8,
+}
 
 // The position in the output after the lines run so far, and the answer of the last one.
 #[derive(Drop)]
@@ -46,8 +54,8 @@ pub extern "C" fn drift_run_script(script: &[u8], air: &mut [u8], output: &mut [
     print_good(script, &mut state, air, output)
 }
 
-// Runs a script and leaves its yard in the state: the answer of its last line as one number. A state that has not 4,501
-// cells, or a script that is refused by 1 to 5 or 33, is told, and all stays as it was.
+// Runs a script and leaves its yard in the state: the answer of its last line as one number. A state that has not 4,483
+// cells, or a script that is refused by 1 to 5, is told, and all stays as it was.
 #[unsafe(no_mangle)]
 pub extern "C" fn drift_script_state(script: &[u8], air: &mut [u8], state: &mut [u16]) -> u64
     ensures value { result ≡ state_told script.now air.old state.old }
@@ -68,7 +76,7 @@ pub extern "C" fn drift_script_state(script: &[u8], air: &mut [u8], state: &mut 
 
 // Runs a script that is not refused, then prints the posts.
 fn print_good(script: &[u8], state: &mut [u16], air: &mut [u8], output: &mut [u8]) -> usize
-    requires { ((judged script.now).number ≡ 0) × (length state.old ≡ 4501) }
+    requires { ((judged script.now).number ≡ 0) × (length state.old ≡ 4483) }
     ensures result_after { out output.new result ≡ wrote (out output.old 0) (script_text script.now air.old) }
     ensures bytes { air.new ≡ (script_world script.now air.old).air }
 {
@@ -78,15 +86,15 @@ fn print_good(script: &[u8], state: &mut [u16], air: &mut [u8], output: &mut [u8
 
 // Runs a script that is not refused: line 1 makes the yard, the lines after it are its steps; each refused one is printed.
 fn run_good(script: &[u8], state: &mut [u16], air: &mut [u8], output: &mut [u8]) -> Ran
-    requires { ((judged script.now).number ≡ 0) × (length state.old ≡ 4501) }
-    ensures air_after { here_in state.new air.new ≡ here_after (script_here script.now air.old) (later_lines script.now) }
-    ensures printed { out output.new result.to ≡ wrote (out output.old 0) (refused_in (script_here script.now air.old) 1 (later_lines script.now)) }
-    ensures answer { result.answer ≡ last_in (script_here script.now air.old) no_step (later_lines script.now) }
+    requires { ((judged script.now).number ≡ 0) × (length state.old ≡ 4483) }
+    ensures air_after { here_in state.new air.new ≡ here_after (script_here script.now air.old) (step_lines script.now) }
+    ensures printed { out output.new result.to ≡ wrote (out output.old 0) (refused_in (script_here script.now air.old) 1 (step_lines script.now)) }
+    ensures answer { result.answer ≡ last_in (script_here script.now air.old) no_step (step_lines script.now) }
 {
-    let first = reader::read_first(script);
-    let setup = first.setup;
-    let from = first.next;
-    state::fresh(state, setup);
+    let first_line = reader::read_line(script, 0);
+    let s = line_steps::sets_of(first_line);
+    state::fresh(state, s.present, s.sources, s.dests);
+    let from = lines::next_of(script, first_line);
     run_lines(script, state, air, output, from)
 }
 
@@ -109,11 +117,10 @@ fn run_lines(
     let mut answer = told::told(0, 7, 0, 0, 0, 0);
     while at < script.len() {
         let l = reader::read_line(script, at);
-        let step = l.step;
-        answer = line_steps::run_step(state, air, step);
+        answer = line_steps::run_step(state, air, l);
         line = line + 1;
         to = line_steps::put_refusal(output, to, line, (answer % 256) as u8);
-        at = l.next;
+        at = lines::next_of(script, l);
     }
     Ran {
         to: to,

@@ -8,8 +8,8 @@ use borrow.Author.Tests.{lt-ltb}
 use Rattle.text.specs.Bytes.{bytes}
 use Rattle.text.specs.Decimal.{decimal}
 use Rattle.scan.specs.Scan.{all_below, stands, digit_at, read_text, first_digit, next_digit, read_number}
-use Rattle.lines.specs.Forms.{or_role, read_role, read_post, post_added, post_begins, posts_read, entries_read, yard_ended, read_yard}
-use Rattle.lines.specs.Lines.{asks_unless, step_line_refusal, order_line, hear_line, beacon_line, yard_or, roll_or, beacon_or, hear_or, line_at, yard_line_refusal, yard_line, no_yard_refusal, first_line, lines_from, judged_lines, judged}
+use Rattle.lines.specs.Forms.{or_role, read_role, read_post, post_added, posts_read, read_yard}
+use Rattle.lines.specs.Lines.{yard_line_refusal, yard_line, step_line_refusal, order_line, hear_line, beacon_line, roll_line, yard_or, roll_or, beacon_or, hear_or, line_at, lines_from, judged_lines, judged}
 use Rattle.meaning.specs.Texts.{bad_text}
 use Rattle.meaning.specs.Script.{printout, air_after}
 use Rattle.script_table.specs.BadScriptCases.{Bad, BadScriptBench}
@@ -20,7 +20,7 @@ unfolding judged bad_text decimal printout air_after
 too_long script over air = rw (lt-ltb 48000 (length script) (omega arith)) (refl, refl)
 
 pub bad_script_bench : BadScriptBench
-unfolding decimal all_below stands digit_at read_text first_digit next_digit read_number or_role read_role read_post post_added post_begins posts_read entries_read yard_ended read_yard asks_unless step_line_refusal order_line hear_line beacon_line yard_or roll_or beacon_or hear_or line_at yard_line_refusal yard_line no_yard_refusal first_line lines_from judged_lines judged bad_text printout air_after
+unfolding decimal all_below stands digit_at read_text first_digit next_digit read_number or_role read_role read_post post_added posts_read read_yard yard_line_refusal yard_line step_line_refusal order_line hear_line beacon_line roll_line yard_or roll_or beacon_or hear_or line_at lines_from judged_lines judged bad_text printout air_after
 bad_script_bench = record {
   over_48000 = too_long;
   exactly_48000 = λ (air : List ℕ). (refl, refl);

@@ -3,12 +3,10 @@ use Rattle.script_table.specs.Joint.{Joint}
 use Rattle.table.proofs.Table.{bench}
 use Rattle.table.proofs.YardTable.{yard_bench}
 use Rattle.table.proofs.RefusalTable.{refusal_bench}
-use Rattle.table.proofs.EntryTable.{entry_post_bench, entry_yard_bench}
 use Rattle.csv_table.proofs.CsvWriteTable.{csv_write_bench}
 use Rattle.csv_table.proofs.CsvReadTable.{csv_read_bench}
 use Rattle.script_table.proofs.ScriptTable.{script_bench, more_script_bench}
 use Rattle.script_table.proofs.BadScriptTable.{bad_script_bench}
-use Rattle.script_table.proofs.EntryScriptTable.{entry_script_bench, bad_entry_script_bench}
 
 pub joint : Joint
 joint = record {
@@ -20,8 +18,4 @@ joint = record {
   bad_scripts = bad_script_bench;
   csv_writing = csv_write_bench;
   csv_reading = csv_read_bench;
-  entry_posts = entry_post_bench;
-  entry_yard = entry_yard_bench;
-  entry_scripts = entry_script_bench;
-  bad_entry_scripts = bad_entry_script_bench;
 }

@@ -1,4 +1,3 @@
 pub mod ScriptTable
 pub mod BadScriptTable
-pub mod EntryScriptTable
 pub mod Joint

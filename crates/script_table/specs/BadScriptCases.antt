@@ -1,4 +1,4 @@
--- The refusals 1 to 5 as scripts: which line is bad, and by which number; 33 is in EntryScriptCases.antt. Assumes nothing.
+-- The refusals 1 to 5 as scripts: which line is bad, and by which number. Assumes nothing.
 use Rattle.std.specs.Prelude.{ℕ, ◌<◌, ◌≡◌, List, [], ◌∷◌, ◌++◌, length, replicate}
 use Rattle.text.specs.Bytes.{bytes}
 use Rattle.meaning.specs.Script.{printout, air_after}

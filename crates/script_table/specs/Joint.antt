@@ -1,14 +1,12 @@
 -- The yard bench of document 01, "proved, in one joint table": frames and posts run singly, the yard, its refusals, scripts;
--- and the cases of document 02, K1 to K3. Assumes nothing.
+-- and the cases of document 02, K1 and K2. Assumes nothing.
 use Rattle.table.specs.Cases.{Bench}
 use Rattle.table.specs.YardCases.{YardBench}
 use Rattle.table.specs.RefusalCases.{RefusalBench}
-use Rattle.table.specs.EntryCases.{EntryPostBench, EntryYardBench}
 use Rattle.csv_table.specs.CsvWriteCases.{CsvWriteBench}
 use Rattle.csv_table.specs.CsvReadCases.{CsvReadBench}
 use Rattle.script_table.specs.ScriptCases.{ScriptBench, MoreScriptBench}
 use Rattle.script_table.specs.BadScriptCases.{BadScriptBench}
-use Rattle.script_table.specs.EntryScriptCases.{EntryScriptBench, BadEntryScriptBench}
 
 pub record Joint : Type 0 where
   pub posts : Bench
@@ -19,7 +17,3 @@ pub record Joint : Type 0 where
   pub bad_scripts : BadScriptBench
   pub csv_writing : CsvWriteBench
   pub csv_reading : CsvReadBench
-  pub entry_posts : EntryPostBench
-  pub entry_yard : EntryYardBench
-  pub entry_scripts : EntryScriptBench
-  pub bad_entry_scripts : BadEntryScriptBench

@@ -1,4 +1,3 @@
 pub mod ScriptCases
 pub mod BadScriptCases
-pub mod EntryScriptCases
 pub mod Joint

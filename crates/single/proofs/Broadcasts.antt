@@ -30,12 +30,12 @@ pub sent_accepted : (p : Post) (word : ℕ) → order_refusal p ≡ 0 → frame_
 unfolding order_sent own_taken kept ticked
 sent_accepted p word z =
     let a = order_passed p z in
-    let l : p.lane < 8 = lane_below_lem p.setup.posts p.lane a.0 in
+    let l : p.lane < 8 = lane_below_lem p.posts p.lane a.0 in
     order_accepted (own_taken p word) p.lane (p.serial.0 + 1) (p.clock.0 + 1) word l l (omega arith)
     (omega (arith, leb-false 16 p.serial.0 a.2)) (omega arith)
 
 pub beacon_sendable : (p : Post) → beacon_refusal p ≡ 0 → frame_refusal (beacon_frame p) ≡ 0
-beacon_sendable p z = beacon_accepted p (lane_below_lem p.setup.posts p.lane (passed (not_in_yard p.setup.posts p.lane) 21 0 (omega arith) z).0)
+beacon_sendable p z = beacon_accepted p (lane_below_lem p.posts p.lane (passed (not_in_yard p.posts p.lane) 21 0 (omega arith) z).0)
 
 -- an order that is taken came in a frame that was accepted
 pub taken_accepted : (p : Post) (f : Frame) → hear_refusal p f ≡ 0 → is_next f (last_of p f.lane) ≡ true → frame_refusal f ≡ 0
@@ -43,6 +43,6 @@ pub taken_accepted : (p : Post) (f : Frame) → hear_refusal p f ≡ 0 → is_ne
 unfolding hear_taken
 taken_accepted p f z t a =
     let h = hear_passed p f z in
-    let l : p.lane < 8 = lane_below_lem p.setup.posts p.lane h.0 in
+    let l : p.lane < 8 = lane_below_lem p.posts p.lane h.0 in
     let o = (accepted f a).order (next_is f (last_of p f.lane) t).0 in
     order_accepted (taken p f) f.lane f.serial.0 f.stamp.0 f.word (rw (taken_lane p f) l) o.lane o.some o.serial o.stamp

@@ -10,8 +10,6 @@ use Rattle.frame.specs.Layout.{frame_of, entry_of}
 use Rattle.frame.specs.Types.{AreBytes, Typed}
 use Rattle.frame.specs.Refusals.{bad_length, read_refusal}
 use Rattle.frame.proofs.Laws.{passed, readable}
-use Rattle.setup.specs.declared.Setup.{Setup}
-use Rattle.setup.specs.Setups.{EightBits}
 use Rattle.post.specs.declared.Post.{Post}
 use Rattle.post.specs.Record.{fresh_post}
 use Rattle.judge.specs.Judgement.{bad_record}
@@ -30,20 +28,20 @@ pub record Good (p : Post) : Type 0 where
 
 -- ---- the start
 
-pub fresh_good : (lane : ℕ) (s : Setup) → EightBits s → (fresh_singly lane s).refusal ≡ 0
-    → Good (fresh_singly lane s).post
+pub fresh_good : (lane posts sources dests : ℕ) → posts < 256 → sources < 256 → dests < 256 → (fresh_singly lane posts sources dests).refusal ≡ 0
+    → Good (fresh_singly lane posts sources dests).post
 unfolding fresh_singly fresh_refusal
-fresh_good lane s h z = go (eqb (fresh_refusal lane s) 0) refl
+fresh_good lane posts sources dests a b c z = go (eqb (fresh_refusal lane posts sources dests) 0) refl
   where
-    go : (t : Bool) → eqb (fresh_refusal lane s) 0 ≡ t → Good (fresh_singly lane s).post
+    go : (t : Bool) → eqb (fresh_refusal lane posts sources dests) 0 ≡ t → Good (fresh_singly lane posts sources dests).post
     go true e =
-        let r = eqb-true (fresh_refusal lane s) 0 e in
+        let r = eqb-true (fresh_refusal lane posts sources dests) 0 e in
         rw e
         (record {
-          shaped = fresh_shaped lane s h;
-          judged = (passed (bad_record (fresh_post lane s)) 12 (cond (not_in_yard s.posts lane) 21 0) (omega arith) r).0;
+          shaped = fresh_shaped lane posts sources dests a b c;
+          judged = (passed (bad_record (fresh_post lane posts sources dests)) 12 (cond (not_in_yard posts lane) 21 0) (omega arith) r).0;
         })
-    go false e = absurd (none (fresh_refusal lane s) e (rw e at z))
+    go false e = absurd (none (fresh_refusal lane posts sources dests) e (rw e at z))
       where
         none : (n : ℕ) → eqb n 0 ≡ false → n ≡ 0 → ⊥
         none n q y = let w : ◌≡◌ {A = ℕ} 0 1 = (let v : true ≡ false = rw y at q in cc) in omega arith
@@ -130,8 +128,8 @@ run_good p [] g = g
 run_good p (s ∷ steps) g = run_good (left_singly p s) steps (step_good p s g)
 
 -- 12 never arises after a good start
-pub never_12 : (lane : ℕ) (s : Setup) → EightBits s → (fresh_singly lane s).refusal ≡ 0
+pub never_12 : (lane posts sources dests : ℕ) → posts < 256 → sources < 256 → dests < 256 → (fresh_singly lane posts sources dests).refusal ≡ 0
     → (steps : List SinglyStep)
-    → bad_record (run_singly (fresh_singly lane s).post steps) ≡ false
-never_12 lane s h z steps =
-    (run_good (fresh_singly lane s).post steps (fresh_good lane s h z)).judged
+    → bad_record (run_singly (fresh_singly lane posts sources dests).post steps) ≡ false
+never_12 lane posts sources dests a b c z steps =
+    (run_good (fresh_singly lane posts sources dests).post steps (fresh_good lane posts sources dests a b c z)).judged

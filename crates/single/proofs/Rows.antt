@@ -40,7 +40,7 @@ use Rattle.laws.proofs.StepLaws.{order_judged, hear_judged}
 pub of_type : (p : Post) (us : List Val) → shadow ((row the_type).own p us) → Shaped p
 of_type p us h =
     let n = h.1 in
-    let a = n.1.1.1.1.1.1.1 in
+    let a = n.1.1.1.1.1.1.1.1 in
     record {
       last = simp length-map at a.0.1.0.1;
       table = simp length-map at a.1.0.1.0.1;
@@ -51,22 +51,24 @@ of_type p us h =
       stamp_values = λ i. (elem_fits_field w16 w16 p.stamps _ i a.1.1.0.1.1 tt).fits;
       word_values = λ i. (elem_fits_field w16 w16 p.words _ i a.1.1.1.0.1.1 tt).fits;
       clock = omega arith;
-      setup = (omega arith, omega arith, omega arith);
+      posts = omega arith;
+      sources = omega arith;
+      dests = omega arith;
     }
 
 -- ---- the record in its row
 
 -- the row that p was put into
 pub record Loaded (p : Post) (l : List ℕ) : Type 0 where
-  pub whole : 545 ≤ length l
+  pub whole : 543 ≤ length l
   pub post : post_in l ≡ p
 
-pub loaded : (p : Post) (l : List ℕ) → length l ≡ 545 → post_in l ≡ loaded_in (replicate 545 0) p → Loaded p l
+pub loaded : (p : Post) (l : List ℕ) → length l ≡ 543 → post_in l ≡ loaded_in (replicate 543 0) p → Loaded p l
 loaded p l h e = record { whole = omega arith; post = e }
 
 pub row_judged : (p : Post) (l : List ℕ) (n : ℕ) → Loaded p l → n ≡ row_refusal l → n ≡ record_refusal p
 unfolding row_refusal
-row_judged p l n h e = rw (le-leb 545 (length l) h.whole, h.post) at e
+row_judged p l n h e = rw (le-leb 543 (length l) h.whole, h.post) at e
 
 -- a good row knows what is so
 pub record Knowing (p : Post) (l : List ℕ) : Type 0 where
@@ -86,9 +88,9 @@ row_knows p l m n h e z em km =
 good_fits : (p : Post) → Shaped p → bad_record p ≡ false → Fits p
 good_fits p s b = record {
   lane = omega (arith, v.lane);
-  setup = s.setup;
-  entries = omega (arith, v.entries.1);
-  spare = omega (arith, v.spare);
+  posts = s.posts;
+  sources = s.sources;
+  dests = s.dests;
   serial = omega (arith, v.serial);
   logged = omega (arith, v.logged);
   last = λ i. last i (dec_lt i 8);
@@ -107,13 +109,13 @@ good_fits p s b = record {
     log i (no h) (yes d) = rw (v.rest i (omega arith) d) (omega arith)
     log i (no h) (no d) = rw (get_or-eq_default p.log 0 {n = i} (omega (arith, s.log))) (omega arith)
 
-stored : (m : List ℕ) (q r : Post) → 545 ≤ length m → post_in m ≡ q → Shaped q × (bad_record q ≡ false) → r ≡ record_in m → r ≡ q
+stored : (m : List ℕ) (q r : Post) → 543 ≤ length m → post_in m ≡ q → Shaped q × (bad_record q ≡ false) → r ≡ record_in m → r ≡ q
 stored m q r h e g er =
     let f : Fits (post_in m) = rw e (good_fits q g.0 g.1) in
     er ∙ stored_whole m h f ∙ e
 
 pub order_runs : (p : Post) (word : ℕ) (l m : List ℕ) (a : OrderAnswer) (f : Frame) (r : Post) → word < 65536 → Shaped p → bad_record p ≡ false
-    → Knowing p l → 545 ≤ length m → stepped a m f ≡ orders_by (known_in l) (post_in l) word → r ≡ record_in m
+    → Knowing p l → 543 ≤ length m → stepped a m f ≡ orders_by (known_in l) (post_in l) word → r ≡ record_in m
     → ◌≡◌ {A = after.Ordered} (record { answer = a; post = r; frame = f }) (order_step p word)
 order_runs p word l m a f r w s b k h e er =
     let x : stepped a m f ≡ record { answer = (order_step p word).answer; post = (order_step p word).post; known = (orders_by (known_in l) p word).known; frame = (order_step p word).frame }
@@ -123,7 +125,7 @@ order_runs p word l m a f r w s b k h e er =
     rw q (ap (λ (y : Stepped OrderAnswer). record { answer = y.answer; post = (order_step p word).post; frame = y.frame }) x)
 
 pub hear_runs : (p : Post) (g : Frame) (l m : List ℕ) (a : HearAnswer) (f : Frame) (r : Post) → frame_refusal g ≡ 0 → Typed g → Shaped p → bad_record p ≡ false
-    → Knowing p l → 545 ≤ length m → stepped a m f ≡ hears_by (known_in l) (post_in l) g → r ≡ record_in m
+    → Knowing p l → 543 ≤ length m → stepped a m f ≡ hears_by (known_in l) (post_in l) g → r ≡ record_in m
     → ◌≡◌ {A = after.Heard} (record { answer = a; post = r; frame = f }) (hear_step p g)
 hear_runs p g l m a f r z t s b k h e er =
     let x : stepped a m f ≡ record { answer = (hear_step p g).answer; post = (hear_step p g).post; known = (hears_by (known_in l) p g).known; frame = (hear_step p g).frame }

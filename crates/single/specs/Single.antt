@@ -2,8 +2,6 @@
 use Rattle.std.specs.Prelude.{ℕ, ◌+◌, cond, ◌&&◌, List, eqb}
 use Rattle.frame.specs.Layout.{frame_of, bytes_of}
 use Rattle.frame.specs.Refusals.{bad_length, read_refusal}
-use Rattle.setup.specs.declared.Setup.{Setup}
-use Rattle.setup.specs.Setups.{no_setup}
 use Rattle.post.specs.declared.Post.{Post}
 use Rattle.post.specs.Record.{last_of, fresh_post}
 use Rattle.post.specs.Newest.{beacon_frame}
@@ -20,17 +18,17 @@ use Rattle.single.specs.declared.Ordered.{Ordered}
 use Rattle.single.specs.declared.Heard.{Heard}
 
 -- "Making a fresh post singly is judged as its record would be, by 12 and then 21."
-unfoldable pub fresh_refusal : ℕ → Setup → ℕ
-fresh_refusal lane setup =
-    cond (bad_record (fresh_post lane setup)) 12
-    (cond (not_in_yard setup.posts lane) 21
+unfoldable pub fresh_refusal : ℕ → ℕ → ℕ → ℕ → ℕ
+fresh_refusal lane posts sources dests =
+    cond (bad_record (fresh_post lane posts sources dests)) 12
+    (cond (not_in_yard posts lane) 21
     0)
 
 -- the fresh post, or the refusal beside a record of zeros
-unfoldable pub fresh_singly : ℕ → Setup → FreshPost
-fresh_singly lane setup =
-    cond (eqb (fresh_refusal lane setup) 0) (record { refusal = 0; post = fresh_post lane setup })
-    (record { refusal = fresh_refusal lane setup; post = fresh_post 0 no_setup })
+unfoldable pub fresh_singly : ℕ → ℕ → ℕ → ℕ → FreshPost
+fresh_singly lane posts sources dests =
+    cond (eqb (fresh_refusal lane posts sources dests) 0) (record { refusal = 0; post = fresh_post lane posts sources dests })
+    (record { refusal = fresh_refusal lane posts sources dests; post = fresh_post 0 0 0 0 })
 
 -- order: 6, 12, then 21 to 24
 unfoldable pub order_refusal_singly : Post → List ℕ → ℕ

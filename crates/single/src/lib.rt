@@ -8,7 +8,6 @@ ghost use Rattle.single.specs.Single.{fresh_singly, order_refusal_singly, order_
 
 use frame::Frame;
 use post::Post;
-use setup::Setup;
 use steps::{BeaconAnswer, HearAnswer, OrderAnswer};
 
 // A fresh post and 0, or the refusal (12, 21) and a record of zeros.
@@ -32,14 +31,14 @@ pub struct Heard {
     pub post: Post,
 }
 
-// A fresh post by lane and what line 1 says of its yard (12, 21).
-pub fn fresh(lane: u8, setup: Setup) -> FreshPost
-    ensures { result ≡ fresh_singly lane setup }
+// A fresh post by lane and roles (12, 21).
+pub fn fresh(lane: u8, posts: u8, sources: u8, dests: u8) -> FreshPost
+    ensures { result ≡ fresh_singly lane posts sources dests }
 {
-    let post = Post::new(lane, setup);
+    let post = Post::new(lane, posts, sources, dests);
     let mut row: [u16; row::LENGTH] = [0; row::LENGTH];
     post_row::load(&mut row, post);
-    let number = cells::pick(!cells::has(setup.posts as u16, lane as u16), 21, 0);
+    let number = cells::pick(!cells::has(posts as u16, lane as u16), 21, 0);
     let number = cells::pick(judge::refusal(&mut row) != 0, 12, number);
     if number == 0 {
         FreshPost {
@@ -47,7 +46,7 @@ pub fn fresh(lane: u8, setup: Setup) -> FreshPost
             post: post,
         }
     } else {
-        let none = Post::new(0, Setup::none());
+        let none = Post::new(0, 0, 0, 0);
         FreshPost {
             refusal: number,
             post: none,

@@ -13,8 +13,7 @@ use lib.Seq.{drop-length}
 use borrow.Author.Tests.{eqb-true, not-false}
 use Rattle.frame.specs.Lanes.{lanes}
 use Rattle.frame.proofs.Laws.{passed}
-use Rattle.setup.specs.declared.Setup.{Setup}
-use Rattle.setup.specs.Setups.{bad_setup}
+use Rattle.cells.specs.Sets.{role_astray}
 use Rattle.post.specs.Record.{fresh_post}
 use Rattle.row.specs.Rows.{part, post_in, known_in}
 use Rattle.row.proofs.Laws.{part_get}
@@ -22,9 +21,8 @@ use Rattle.state.specs.Yards.{no_post, fresh_yard, yard_refusal}
 use Rattle.state.specs.States.{whole, row_of, yard_in, knowns_in, held_in}
 use Rattle.state.specs.Fresh.{Made, nothing_known, fresh_in}
 use Rattle.state.specs.Making.{FreshFront, FreshBelow, SameFront}
-use Rattle.cells.proofs.Lanes.{at_lane}
 use Rattle.row.proofs.LentParts.{put_part}
-use Rattle.state.proofs.StateLaws.{eight, held_whole, this_row, other_row, front_part, lent_row, row_back, back_is, lent_length}
+use Rattle.state.proofs.StateLaws.{at_lane, eight, held_whole, this_row, other_row, front_part, lent_row, row_back, back_is, lent_length}
 
 -- ---- cells cleared, one after another
 
@@ -36,54 +34,48 @@ cleared s₀ s n h e = rw (h, drop-length, append-nil) at e
 
 -- ---- the cells before the rows
 
-pub front_fresh : (s row t u v w m : List ℕ) (setup : Setup) → length s ≡ 4501 → row ≡ replicate (length (take (141 - 0) (drop 0 s))) 0
-    → t ≡ take 0 s ++ (row ++ drop (141 - 0) (drop 0 s)) → u ≡ set t 0 setup.posts → v ≡ set u 1 setup.sources → w ≡ set v 139 setup.dests → m ≡ set w 140 setup.entries → FreshFront m setup
+pub front_fresh : (s row t u m : List ℕ) (present sources : ℕ) → length s ≡ 4483 → row ≡ replicate (length (take (139 - 0) (drop 0 s))) 0
+    → t ≡ take 0 s ++ (row ++ drop (139 - 0) (drop 0 s)) → u ≡ set t 0 present → m ≡ set u 1 sources → FreshFront m present sources
 unfolding part
-front_fresh s row t u v w m setup long er et eu ev ew em =
-    let l : length (take 141 s) ≡ 141 = simp length-take (omega arith) in
-    let z : row ≡ replicate 141 0 = rw l at er in
-    let e : m ≡ set (set (set (set (replicate 141 0 ++ drop 141 s) 0 setup.posts) 1 setup.sources) 139 setup.dests) 140 setup.entries
-    = rw (em, ew, ev, eu, et, z)
-    in
+front_fresh s row t u m present sources long er et eu em =
+    let l : length (take 139 s) ≡ 139 = simp length-take (omega arith) in
+    let w : row ≡ replicate 139 0 = rw l at er in
+    let e : m ≡ set (set (replicate 139 0 ++ drop 139 s) 0 present) 1 sources = rw (em, eu, et, w) in
     record {
       posts = rw e;
-      sources = rw e;
+      roles = rw e;
       frames = rw e;
       beacons = rw e;
       first = rw e;
-      dests = rw e;
-      entries = rw e;
     }
 
 -- ---- a row
 
-pub row_fresh : (l a b d e f m : List ℕ) (lane : ℕ) (setup : Setup) → length l ≡ 545 → a ≡ replicate (length l) 0 → b ≡ set a 0 lane
-    → d ≡ set b 1 setup.sources → e ≡ set d 2 setup.dests → f ≡ set e 542 setup.entries → m ≡ set f 544 setup.posts
-    → (post_in m ≡ fresh_post lane setup) × (known_in m ≡ replicate 8 0)
+pub row_fresh : (l a b d e m : List ℕ) (lane present sources dests : ℕ) → length l ≡ 543 → a ≡ replicate (length l) 0 → b ≡ set a 0 lane → d ≡ set b 1 sources
+    → e ≡ set d 2 dests → m ≡ set e 542 present
+    → (post_in m ≡ fresh_post lane present sources dests) × (known_in m ≡ replicate 8 0)
 unfolding post_in known_in part
-row_fresh l a b d e f m lane setup long ea eb ed ee ef em =
-    let w : m ≡ set (set (set (set (set (replicate 545 0) 0 lane) 1 setup.sources) 2 setup.dests) 542 setup.entries) 544 setup.posts
-    = rw (em, ef, ee, ed, eb, ea, long)
-    in
+row_fresh l a b d e m lane present sources dests long ea eb ed ee em =
+    let w : m ≡ set (set (set (set (replicate 543 0) 0 lane) 1 sources) 2 dests) 542 present = rw (em, ee, ed, eb, ea, long) in
     (rw w, rw w)
 
 -- none yet, and one more
-pub rows_none : (s : List ℕ) (setup : Setup) → FreshBelow s setup 0 × SameFront s s
-rows_none s setup = (record { post = λ i l. absurd (omega arith); known = λ i l. absurd (omega arith) }, λ b m k. refl)
+pub rows_none : (s : List ℕ) (present sources dests : ℕ) → FreshBelow s present sources dests 0 × SameFront s s
+rows_none s present sources dests = (record { post = λ i l. absurd (omega arith); known = λ i l. absurd (omega arith) }, λ b m k. refl)
 
-pub rows_more : (s₀ s row t : List ℕ) (setup : Setup) (lane : ℕ) → length s ≡ 4501 → lane < 8 → length row ≡ length (lent_row s lane)
-    → FreshBelow s setup lane × SameFront s₀ s
-    → post_in row ≡ fresh_post lane setup → known_in row ≡ replicate 8 0 → t ≡ row_back s lane row
-    → FreshBelow t setup (lane + 1) × SameFront s₀ t
-rows_more s₀ s row t setup lane long small lr h ep ek et = (record { post = λ i l. post i l (ℕ_discrete i lane); known = λ i l. known i l (ℕ_discrete i lane) }, front)
+pub rows_more : (s₀ s row t : List ℕ) (present sources dests lane : ℕ) → length s ≡ 4483 → lane < 8 → length row ≡ length (lent_row s lane)
+    → FreshBelow s present sources dests lane × SameFront s₀ s
+    → post_in row ≡ fresh_post lane present sources dests → known_in row ≡ replicate 8 0 → t ≡ row_back s lane row
+    → FreshBelow t present sources dests (lane + 1) × SameFront s₀ t
+rows_more s₀ s row t present sources dests lane long small lr h ep ek et = (record { post = λ i l. post i l (ℕ_discrete i lane); known = λ i l. known i l (ℕ_discrete i lane) }, front)
   where
-    size : length row ≡ 545
+    size : length row ≡ 543
     size = lr ∙ lent_length s lane long small
 
-    back : t ≡ put_part s (141 + 545 * lane) 545 row
+    back : t ≡ put_part s (139 + 543 * lane) 543 row
     back = et ∙ back_is s lane row
 
-    post : (i : ℕ) → i < lane + 1 → Dec (i ≡ lane) → post_in (row_of t i) ≡ fresh_post i setup
+    post : (i : ℕ) → i < lane + 1 → Dec (i ≡ lane) → post_in (row_of t i) ≡ fresh_post i present sources dests
     post i l (yes e) = rw (back, e, this_row s lane row long small size) ep
     post i l (no n) = rw (back, other_row s lane row long small size i n) (h.0.post i (omega (arith, n)))
 
@@ -96,15 +88,15 @@ rows_more s₀ s row t setup lane long small lr h ep ek et = (record { post = λ
 
 -- ---- the whole
 
-same_cell : (s t : List ℕ) (k : ℕ) → SameFront s t → k + 1 ≤ 141 → get_or t (k + 0) 0 ≡ get_or s (k + 0) 0
+same_cell : (s t : List ℕ) (k : ℕ) → SameFront s t → k + 1 ≤ 139 → get_or t (k + 0) 0 ≡ get_or s (k + 0) 0
 same_cell s t k h l = sym (part_get t k 1 0 (omega arith)) ∙ ap (λ (x : List ℕ). get_or x 0 0) (h k 1 l) ∙ part_get s k 1 0 (omega arith)
 
-held_fresh : (s t : List ℕ) (setup : Setup) → length t ≡ 4501 → FreshFront s setup → FreshBelow t setup 8 → SameFront s t
-    → held_in t ≡ whole (fresh_yard setup) nothing_known
+held_fresh : (s t : List ℕ) (present sources dests : ℕ) → length t ≡ 4483 → FreshFront s present sources → FreshBelow t present sources dests 8 → SameFront s t
+    → held_in t ≡ whole (fresh_yard present sources dests) nothing_known
 unfolding yard_in knowns_in fresh_yard
-held_fresh s t setup long f b e =
-    let ps : map (λ (i : ℕ). post_in (row_of t i)) lanes ≡ map (λ (i : ℕ). fresh_post i setup) lanes
-    = eight no_post (λ (i : ℕ). fresh_post i setup) (map (λ (i : ℕ). post_in (row_of t i)) lanes) refl
+held_fresh s t present sources dests long f b e =
+    let ps : map (λ (i : ℕ). post_in (row_of t i)) lanes ≡ map (λ (i : ℕ). fresh_post i present sources dests) lanes
+    = eight no_post (λ (i : ℕ). fresh_post i present sources dests) (map (λ (i : ℕ). post_in (row_of t i)) lanes) refl
     (λ i l. at_lane no_post (λ (j : ℕ). post_in (row_of t j)) i l ∙ b.post i l)
     in
     let ks : map (λ (i : ℕ). known_in (row_of t i)) lanes ≡ map (λ (i : ℕ). replicate 8 0) lanes
@@ -112,26 +104,26 @@ held_fresh s t setup long f b e =
     (λ i l. at_lane [] (λ (j : ℕ). known_in (row_of t j)) i l ∙ b.known i l)
     in
     held_whole t long
-    ∙ rw (ps, ks, same_cell s t 0 e (omega arith), same_cell s t 1 e (omega arith), same_cell s t 2 e (omega arith), same_cell s t 139 e (omega arith), same_cell s t 140 e (omega arith), e 3 8 (omega arith), e 11 128 (omega arith), f.posts, f.sources, f.dests, f.entries, f.frames, f.beacons, f.first)
+    ∙ rw (ps, ks, same_cell s t 0 e (omega arith), same_cell s t 1 e (omega arith), same_cell s t 2 e (omega arith), e 3 8 (omega arith), e 11 128 (omega arith), f.posts, f.roles, f.frames, f.beacons, f.first)
 
 -- 3, then 12, for the roles or the length
-pub fresh_judged : (s : List ℕ) (setup : Setup) (n12 m n : ℕ) (bad : Bool) → n12 ≡ cond (not (eqb (length s) 4501)) 12 0 → bad ≡ bad_setup setup
-    → m ≡ cond bad 12 n12 → n ≡ cond (eqb (ones setup.posts) 0) 3 m → n ≡ 0 → (length s ≡ 4501) × (yard_refusal setup ≡ 0)
+pub fresh_judged : (s : List ℕ) (present sources dests n12 m n : ℕ) (astray : Bool) → n12 ≡ cond (not (eqb (length s) 4483)) 12 0 → astray ≡ role_astray present sources dests
+    → m ≡ cond astray 12 n12 → n ≡ cond (eqb (ones present) 0) 3 m → n ≡ 0 → (length s ≡ 4483) × (yard_refusal present sources dests ≡ 0)
 unfolding yard_refusal
-fresh_judged s setup n12 m n bad e12 ea em en z =
-    let a = passed (eqb (ones setup.posts) 0) 3 m (omega arith) (sym en ∙ z) in
-    let b = passed bad 12 n12 (omega arith) (sym em ∙ a.1) in
-    let d = passed (not (eqb (length s) 4501)) 12 0 (omega arith) (sym e12 ∙ b.1) in
-    (eqb-true (length s) 4501 (not-false _ d.0), rw (a.0, ← ea, b.0))
+fresh_judged s present sources dests n12 m n astray e12 ea em en z =
+    let a = passed (eqb (ones present) 0) 3 m (omega arith) (sym en ∙ z) in
+    let b = passed astray 12 n12 (omega arith) (sym em ∙ a.1) in
+    let d = passed (not (eqb (length s) 4483)) 12 0 (omega arith) (sym e12 ∙ b.1) in
+    (eqb-true (length s) 4483 (not-false _ d.0), rw (a.0, ← ea, b.0))
 
-pub fresh_refused : (s : List ℕ) (setup : Setup) (n12 m n : ℕ) (bad : Bool) → n12 ≡ cond (not (eqb (length s) 4501)) 12 0 → bad ≡ bad_setup setup
-    → m ≡ cond bad 12 n12 → n ≡ cond (eqb (ones setup.posts) 0) 3 m → (n ≡ 0 → ⊥)
-    → ◌≡◌ {A = Made} (record { number = n; held = held_in s }) (fresh_in (held_in s) setup)
+pub fresh_refused : (s : List ℕ) (present sources dests n12 m n : ℕ) (astray : Bool) → n12 ≡ cond (not (eqb (length s) 4483)) 12 0 → astray ≡ role_astray present sources dests
+    → m ≡ cond astray 12 n12 → n ≡ cond (eqb (ones present) 0) 3 m → (n ≡ 0 → ⊥)
+    → ◌≡◌ {A = Made} (record { number = n; held = held_in s }) (fresh_in (held_in s) present sources dests)
 unfolding held_in fresh_in yard_refusal
-fresh_refused s setup n12 m n bad e12 ea em en h = go (eqb (length s) 4501) refl bad refl (eqb (ones setup.posts) 0) refl
+fresh_refused s present sources dests n12 m n astray e12 ea em en h = go (eqb (length s) 4483) refl astray refl (eqb (ones present) 0) refl
   where
-    go : (a : Bool) → eqb (length s) 4501 ≡ a → (b : Bool) → bad ≡ b → (d : Bool) → eqb (ones setup.posts) 0 ≡ d
-        → ◌≡◌ {A = Made} (record { number = n; held = held_in s }) (fresh_in (held_in s) setup)
+    go : (a : Bool) → eqb (length s) 4483 ≡ a → (b : Bool) → astray ≡ b → (d : Bool) → eqb (ones present) 0 ≡ d
+        → ◌≡◌ {A = Made} (record { number = n; held = held_in s }) (fresh_in (held_in s) present sources dests)
     go false p b q true r = let z : n ≡ 3 = rw r at en in rw (p, r, z)
     go false p true q false r = let z : n ≡ 12 = rw (r, em, q) at en in rw (p, r, z)
     go false p false q false r = let z : n ≡ 12 = rw (r, em, q, e12, p) at en in rw (p, r, z)
@@ -139,8 +131,8 @@ fresh_refused s setup n12 m n bad e12 ea em en h = go (eqb (length s) 4501) refl
     go true p true q false r = let z : n ≡ 12 = rw (r, em, q) at en in rw (p, r, ← ea, q, z)
     go true p false q false r = absurd (h (rw (r, em, q, e12, p) at en))
 
-pub fresh_made : (s u t : List ℕ) (setup : Setup) → length s ≡ 4501 → yard_refusal setup ≡ 0 → length t ≡ 4501
-    → FreshFront u setup → FreshBelow t setup 8 → SameFront u t
-    → ◌≡◌ {A = Made} (record { number = 0; held = held_in t }) (fresh_in (held_in s) setup)
+pub fresh_made : (s u t : List ℕ) (present sources dests : ℕ) → length s ≡ 4483 → yard_refusal present sources dests ≡ 0 → length t ≡ 4483
+    → FreshFront u present sources → FreshBelow t present sources dests 8 → SameFront u t
+    → ◌≡◌ {A = Made} (record { number = 0; held = held_in t }) (fresh_in (held_in s) present sources dests)
 unfolding fresh_in
-fresh_made s u t setup long z lt f b e = rw (held_whole s long, z, held_fresh u t setup lt f b e)
+fresh_made s u t present sources dests long z lt f b e = rw (held_whole s long, z, held_fresh u t present sources dests lt f b e)

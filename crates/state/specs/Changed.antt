@@ -6,7 +6,8 @@ use Rattle.state.specs.Yards.{Yard}
 -- y with another record of a lane, and so many frames on the air
 abbrev pub with_post : Yard → ℕ → Post → ℕ → Yard
 with_post y lane p frames = record {
-  setup = y.setup;
+  present = y.present;
+  sources = y.sources;
   posts = set y.posts lane p;
   frames = frames;
   beacons = y.beacons;
@@ -16,7 +17,8 @@ with_post y lane p frames = record {
 -- y with so many frames on the air, and so many beacons sent by each lane
 abbrev pub with_beacons : Yard → ℕ → List ℕ → Yard
 with_beacons y frames beacons = record {
-  setup = y.setup;
+  present = y.present;
+  sources = y.sources;
   posts = y.posts;
   frames = frames;
   beacons = beacons;

@@ -1,7 +1,6 @@
--- A fresh yard in a state: 3, "no posts"; 12, "a role at a lane without a post", E outside 1 to 8, or a state of another length. Assumes nothing.
+-- A fresh yard in a state: 3, "no posts"; 12, "a role at a lane without a post", or a state of another length. Assumes nothing.
 use Rattle.std.specs.Prelude.{ℕ, cond, List, eqb, replicate}
 use Rattle.std.specs.Int.Count.{ones}
-use Rattle.setup.specs.declared.Setup.{Setup}
 use Rattle.state.specs.Yards.{fresh_yard, yard_refusal}
 use Rattle.state.specs.States.{Held, whole, other}
 
@@ -14,9 +13,9 @@ pub record Made : Type 0 where
 abbrev pub nothing_known : List (List ℕ)
 nothing_known = replicate 8 (replicate 8 0)
 
-unfoldable pub fresh_in : Held → Setup → Made
-fresh_in (other cells) setup = record { number = cond {A = ℕ} (eqb (ones setup.posts) 0) 3 12; held = other cells }
-fresh_in (whole y knowns) setup =
-    let number = yard_refusal setup in
-    cond (eqb number 0) (record { number = 0; held = whole (fresh_yard setup) nothing_known })
+unfoldable pub fresh_in : Held → ℕ → ℕ → ℕ → Made
+fresh_in (other cells) present sources dests = record { number = cond {A = ℕ} (eqb (ones present) 0) 3 12; held = other cells }
+fresh_in (whole y knowns) present sources dests =
+    let number = yard_refusal present sources dests in
+    cond (eqb number 0) (record { number = 0; held = whole (fresh_yard present sources dests) nothing_known })
     (record { number = number; held = whole y knowns })

@@ -2,15 +2,15 @@
 use Rattle.std.specs.Prelude.{ℕ, Bool, cond, List, [], map, leb, eqb, get_or, replicate}
 use Rattle.std.specs.Int.Count.{ones}
 use Rattle.frame.specs.Lanes.{lanes}
-use Rattle.setup.specs.declared.Setup.{Setup}
-use Rattle.setup.specs.Setups.{bad_setup, no_setup}
+use Rattle.cells.specs.Sets.{role_astray}
 use Rattle.post.specs.declared.Post.{Post}
 use Rattle.post.specs.Record.{fresh_post}
 
--- what line 1 says, with the set of lanes that have a post, a record for each lane, how many frames were sent, how many beacons by the
--- post of each lane, and for each order the number of its first frame, at the order's place
+-- the lanes that have a post, the sources among them, a record for each lane, how many frames were sent, how many beacons by the post
+-- of each lane, and for each order the number of its first frame, at the order's place
 pub record Yard : Type 0 where
-  pub setup : Setup
+  pub present : ℕ
+  pub sources : ℕ
   pub posts : List Post
   pub frames : ℕ
   pub beacons : List ℕ
@@ -20,8 +20,9 @@ pub record Yard : Type 0 where
 abbrev pub no_post : Post
 no_post = record {
   lane = 0;
-  setup = no_setup;
-  spare = 0;
+  posts = 0;
+  sources = 0;
+  dests = 0;
   clock = record { 0 = 0 };
   serial = record { 0 = 0 };
   last = [];
@@ -45,21 +46,21 @@ abbrev pub spent : ℕ → Bool
 spent beacons = leb 128 beacons
 
 -- "A fresh yard is any yard before its first step: each post fresh, no frame on the air yet, no beacon sent."
-unfoldable pub fresh_yard : Setup → Yard
-fresh_yard setup = record {
-  setup = setup;
-  posts = map (λ (lane : ℕ). fresh_post lane setup) lanes;
+unfoldable pub fresh_yard : ℕ → ℕ → ℕ → Yard
+fresh_yard present sources dests = record {
+  present = present;
+  sources = sources;
+  posts = map (λ (lane : ℕ). fresh_post lane present sources dests) lanes;
   frames = 0;
   beacons = replicate 8 0;
   first = replicate 128 0;
 }
 
--- 3, "no posts": N, the count of ones, is 0; 12, "a role at a lane without a post" or E outside 1 to 8: then each record would be turned
--- down, and only then
-unfoldable pub yard_refusal : Setup → ℕ
-yard_refusal setup =
-    cond (eqb (ones setup.posts) 0) 3
-    (cond (bad_setup setup) 12
+-- 3, "no posts": N, the count of ones, is 0; 12, "a role at a lane without a post": then each record would be turned down, and only then
+unfoldable pub yard_refusal : ℕ → ℕ → ℕ → ℕ
+yard_refusal present sources dests =
+    cond (eqb (ones present) 0) 3
+    (cond (role_astray present sources dests) 12
     0)
 
 -- a fresh yard and 0, or a refusal
@@ -67,8 +68,8 @@ pub record FreshYard : Type 0 where
   pub refusal : ℕ
   pub yard : Yard
 
--- the fresh yard of what line 1 says, or the refusal beside a yard without posts
-unfoldable pub yard_made : Setup → FreshYard
-yard_made setup =
-    cond (eqb (yard_refusal setup) 0) (record { refusal = 0; yard = fresh_yard setup })
-    (record { refusal = yard_refusal setup; yard = fresh_yard no_setup })
+-- the fresh yard of three sets of lanes, or the refusal beside a yard without posts
+unfoldable pub yard_made : ℕ → ℕ → ℕ → FreshYard
+yard_made present sources dests =
+    cond (eqb (yard_refusal present sources dests) 0) (record { refusal = 0; yard = fresh_yard present sources dests })
+    (record { refusal = yard_refusal present sources dests; yard = fresh_yard 0 0 0 })

@@ -6,14 +6,12 @@ ghost use Rattle.std.specs.Prelude.{◌≡◌};
 ghost use Rattle.state.specs.States.{held_in};
 ghost use Rattle.state.specs.Fresh.{Made, fresh_in};
 
-use setup::Setup;
-
 // How many lanes there are.
 pub const LANES: usize = 8;
 
 // Cells of a state: the set of posts, the set of sources, how many frames were sent, how many beacons by each lane, the first
-// frames, the set of destinations, the entries of a broadcast, the rows.
-pub const POSTS: usize = 0;
+// frames, the rows.
+pub const PRESENT: usize = 0;
 
 pub const SOURCES: usize = 1;
 
@@ -23,32 +21,22 @@ pub const BEACONS_SENT: u16 = 3;
 
 pub const FIRST: u16 = BEACONS_SENT + LANES as u16;
 
-pub const DESTS: usize = (FIRST + row::ORDERS) as usize;
-
-pub const ENTRIES_LIMIT: usize = DESTS + 1;
-
-pub const ROWS: usize = ENTRIES_LIMIT + 1;
+pub const ROWS: usize = (FIRST + row::ORDERS) as usize;
 
 pub const LENGTH: usize = ROWS + LANES * row::LENGTH;
 
-// A fresh yard from what line 1 says (3, 12).
-pub fn fresh(state: &mut [u16], setup: Setup) -> u8
-    ensures { ◌≡◌ {A = Made} (record { number = result; held = held_in state.new }) (fresh_in (held_in state.old) setup) }
+// A fresh yard from the lanes that have a post, the sources and the destinations (3, 12).
+pub fn fresh(state: &mut [u16], present: u8, sources: u8, dests: u8) -> u8
+    ensures { ◌≡◌ {A = Made} (record { number = result; held = held_in state.new }) (fresh_in (held_in state.old) present sources dests) }
 {
     let number = cells::pick(state.len() != LENGTH, 12, 0);
-    let posts = setup.posts;
-    let bad = setup::bad(
-        posts as u16,
-        setup.sources as u16,
-        setup.dests as u16,
-        setup.entries as u16,
-    );
-    let number = cells::pick(bad, 12, number);
-    let number = cells::pick(u8::count_ones(posts) == 0, 3, number);
+    let astray = cells::role_astray(present as u16, sources as u16, dests as u16);
+    let number = cells::pick(astray, 12, number);
+    let number = cells::pick(u8::count_ones(present) == 0, 3, number);
     if number != 0 {
         return number;
     }
-    making::front(state, setup);
-    making::rows(state, setup);
+    making::front(state, present as u16, sources as u16);
+    making::rows(state, present as u16, sources as u16, dests as u16);
     0
 }

@@ -14,7 +14,7 @@ use Rattle.cells.specs.Sets.{has_lane}
 use Rattle.cells.specs.Tables.{order_place}
 use Rattle.post.specs.declared.Post.{Post}
 use Rattle.post.specs.Record.{last_of, is_source}
-use Rattle.post.specs.Newest.{raised_below, entries_sent, order_frame}
+use Rattle.post.specs.Newest.{raised_below, newest_entries, order_frame}
 use Rattle.post.specs.Taking.{kept, ticked, raised_post, taken}
 use Rattle.row.specs.Rows.{part, post_in, known_in, past_in, with_table}
 use Rattle.row.proofs.LentRows.{table_lent}
@@ -36,7 +36,7 @@ use Rattle.steps.proofs.Ways.{has_lane_lem, whole}
 -- ---- part 1
 
 -- the table that was lent is the row's
-pub raised_row : (l m t : List ℕ) (entries : List Entry) → 545 ≤ length l → length t ≡ length (part l 22 136) → m ≡ take 22 l ++ (t ++ drop 136 (drop 22 l))
+pub raised_row : (l m t : List ℕ) (entries : List Entry) → 543 ≤ length l → length t ≡ length (part l 22 136) → m ≡ take 22 l ++ (t ++ drop 136 (drop 22 l))
     → t ≡ raised_below (part l 22 136) entries 8
     → (post_in m ≡ with_table (post_in l) (raised_below (part l 22 136) entries 8)) × ((known_in m ≡ known_in l) × (past_in m ≡ past_in l))
 unfolding part
@@ -63,20 +63,20 @@ own_lane p f = go (is_source p p.lane)
 pub taken_lane : (p : Post) (f : Frame) → (taken p f).lane ≡ p.lane
 taken_lane p f = ap (λ (q : Post). q.lane) (takes_after p f) ∙ own_lane (with_table p (raised_below p.table f.entries 8)) f
 
-pub takes_source : (p b q : Post) (f : Frame) (t : Bool) (serial reached : ℕ) → t ≡ has_lane p.setup.sources p.lane → t ≡ true
+pub takes_source : (p b q : Post) (f : Frame) (t : Bool) (serial reached : ℕ) → t ≡ has_lane p.sources p.lane → t ≡ true
     → serial ≡ p.serial.0 → reached ≡ max p.clock.0 f.stamp.0
     → b ≡ kept p f.lane f.serial.0 f.stamp.0 f.word → q ≡ ticked b serial (reached + 1)
     → q ≡ taken_raised p f
 unfolding taken_raised
 takes_source p b q f t serial reached et s es er eb eq = rw (eq, eb, es, er, sym et ∙ s)
 
-pub takes_other : (p q : Post) (f : Frame) (t : Bool) → t ≡ has_lane p.setup.sources p.lane → t ≡ false
+pub takes_other : (p q : Post) (f : Frame) (t : Bool) → t ≡ has_lane p.sources p.lane → t ≡ false
     → q ≡ kept p f.lane f.serial.0 f.stamp.0 f.word
     → q ≡ taken_raised p f
 unfolding taken_raised
 takes_other p q f t et s eq = rw (eq, sym et ∙ s)
 
-pub takes_frame : (p q : Post) (f : Frame) (lane : ℕ) (entries : List Entry) → lane ≡ p.lane → q ≡ taken_raised p f → entries ≡ entries_sent q
+pub takes_frame : (p q : Post) (f : Frame) (lane : ℕ) (entries : List Entry) → lane ≡ p.lane → q ≡ taken_raised p f → entries ≡ newest_entries q.table
     → ◌≡◌ {A = Frame}
     (record { kind = 1; sender = lane; lane = f.lane; serial = f.serial; stamp = f.stamp; word = f.word; entries = entries })
     (order_frame (taken_raised p f) f.lane f.serial.0 f.stamp.0 f.word)
@@ -95,14 +95,14 @@ none_so_far test n b p e t = rw t at (any_more test n false b p e)
 -- a row that nothing refuses is whole, and what is to be taken can be
 abbrev pub CanTake : List ℕ → Frame → Type 0
 CanTake l f =
-    (545 ≤ length l) × ((post_in l).lane < 8) × (has_lane (post_in l).setup.sources (post_in l).lane ≡ true → max (post_in l).clock.0 f.stamp.0 < 65535)
+    (543 ≤ length l) × ((post_in l).lane < 8) × (has_lane (post_in l).sources (post_in l).lane ≡ true → max (post_in l).clock.0 f.stamp.0 < 65535)
 
-pub whole_row : (l : List ℕ) (f : Frame) → hear_refusal (post_in l) f ≡ 0 → (545 ≤ length l) × ((post_in l).lane < 8)
+pub whole_row : (l : List ℕ) (f : Frame) → hear_refusal (post_in l) f ≡ 0 → (543 ≤ length l) × ((post_in l).lane < 8)
 unfolding post_in
 whole_row l f r =
     let p = post_in l in
-    let y : has_lane p.setup.posts p.lane ≡ true = not-false (has_lane p.setup.posts p.lane) (hear_passed p f r).0 in
-    (whole l p.lane y, has_lane_lem p.setup.posts p.lane y)
+    let y : has_lane p.posts p.lane ≡ true = not-false (has_lane p.posts p.lane) (hear_passed p f r).0 in
+    (whole l p.lane y, has_lane_lem p.posts p.lane y)
 
 -- what is not refused by 24 can rise
 can_pass : (p : Post) (f : Frame) → hear_refusal p f ≡ 0 → is_next f (last_of p f.lane) ≡ true → is_source p p.lane ≡ true
@@ -113,7 +113,7 @@ can_pass p f r x q =
 
 -- on a row that part 1 has raised
 pub can_take : (l m : List ℕ) (f : Frame) (number last : ℕ) (t : Bool) → number ≡ hear_refusal (post_in l) f → number ≡ 0 → last ≡ last_of (post_in l) f.lane
-    → t ≡ is_next f last → t ≡ true → post_in m ≡ with_table (post_in l) (raised_below (post_in l).table f.entries 8) → 545 ≤ length m
+    → t ≡ is_next f last → t ≡ true → post_in m ≡ with_table (post_in l) (raised_below (post_in l).table f.entries 8) → 543 ≤ length m
     → CanTake m f
 can_take l m f number last t en z el et s em h =
     let r : hear_refusal (post_in l) f ≡ 0 = sym en ∙ z in
@@ -122,15 +122,15 @@ can_take l m f number last t en z el et s em h =
     (h, rw em w.1, rw em (can_pass (post_in l) f r x))
 
 -- the sum that the clock of a source becomes
-pub fits : (p : Post) (f : Frame) (t : Bool) (lane sources clock reached : ℕ) → lane ≡ p.lane → sources ≡ p.setup.sources → clock ≡ p.clock.0
+pub fits : (p : Post) (f : Frame) (t : Bool) (lane sources clock reached : ℕ) → lane ≡ p.lane → sources ≡ p.sources → clock ≡ p.clock.0
     → t ≡ has_lane sources lane → t ≡ true → reached ≡ max clock f.stamp.0
-    → (has_lane p.setup.sources p.lane ≡ true → max p.clock.0 f.stamp.0 < 65535) → reached + 1 < 65536
+    → (has_lane p.sources p.lane ≡ true → max p.clock.0 f.stamp.0 < 65535) → reached + 1 < 65536
 fits p f t lane sources clock reached el es ec et s er h =
-    let y : has_lane p.setup.sources p.lane ≡ true = rw (← el, ← es) (sym et ∙ s) in
+    let y : has_lane p.sources p.lane ≡ true = rw (← el, ← es) (sym et ∙ s) in
     let z : reached ≡ max p.clock.0 f.stamp.0 = rw ec at er in
     omega (arith, h y)
 
-pub is_source_lem : (p : Post) (t : Bool) (lane sources : ℕ) → lane ≡ p.lane → sources ≡ p.setup.sources → t ≡ has_lane sources lane → t ≡ has_lane p.setup.sources p.lane
+pub is_source_lem : (p : Post) (t : Bool) (lane sources : ℕ) → lane ≡ p.lane → sources ≡ p.sources → t ≡ has_lane sources lane → t ≡ has_lane p.sources p.lane
 is_source_lem p t lane sources el es et = rw (el, es) at et
 
 pub is_reached : (p : Post) (f : Frame) (clock reached : ℕ) → clock ≡ p.clock.0 → reached ≡ max clock f.stamp.0 → reached ≡ max p.clock.0 f.stamp.0
@@ -157,15 +157,15 @@ above_is p f last next b el en e = rw (en, el) at e
 
 -- the chain of refusals, each where none before it holds
 module _ (p : Post) (f : Frame) where
-  pub is_21 : (lane posts : ℕ) (b : Bool) → lane ≡ p.lane → posts ≡ p.setup.posts → b ≡ has_lane posts lane → not b ≡ true → 21 ≡ hear_refusal p f
+  pub is_21 : (lane posts : ℕ) (b : Bool) → lane ≡ p.lane → posts ≡ p.posts → b ≡ has_lane posts lane → not b ≡ true → 21 ≡ hear_refusal p f
   unfolding hear_refusal
-  is_21 lane posts b el ep eb t = let y : not (has_lane p.setup.posts p.lane) ≡ true = rw (el, ep) at (rw eb at t) in rw y
+  is_21 lane posts b el ep eb t = let y : not (has_lane p.posts p.lane) ≡ true = rw (el, ep) at (rw eb at t) in rw y
 
   -- what passed 21
   abbrev pub Inside : Type 0
-  Inside = not_in_yard p.setup.posts p.lane ≡ false
+  Inside = not_in_yard p.posts p.lane ≡ false
 
-  pub inside : (lane posts : ℕ) (b : Bool) → lane ≡ p.lane → posts ≡ p.setup.posts → b ≡ has_lane posts lane → not b ≡ false → Inside
+  pub inside : (lane posts : ℕ) (b : Bool) → lane ≡ p.lane → posts ≡ p.posts → b ≡ has_lane posts lane → not b ≡ false → Inside
   inside lane posts b el ep eb t = rw (el, ep) at (rw eb at t)
 
   -- so there is an entry of its lane
@@ -219,7 +219,7 @@ module _ (p : Post) (f : Frame) where
 
 -- the whole step: the order is taken, the entries alone raise the table, and refused
 hears : (l m n : List ℕ) (f g : Frame) (count : ℕ) (a : hearings.HearAnswer) → hear_refusal (post_in l) f ≡ 0
-    → g ≡ (hear_step (post_in l) f).frame → post_in m ≡ hear_took (post_in l) f → known_in m ≡ known_in l → 545 ≤ length m
+    → g ≡ (hear_step (post_in l) f).frame → post_in m ≡ hear_took (post_in l) f → known_in m ≡ known_in l → 543 ≤ length m
     → ◌≡◌ {A = KnownDelivery} (record { post = post_in n; known = known_in n; count = count }) (delivered_row m)
     → a ≡ passed_answer f (last_of (post_in l) f.lane) count
     → stepped a n g ≡ hears_by (known_in l) (post_in l) f
@@ -234,7 +234,7 @@ pub hear_takes : (l k m n : List ℕ) (f g : Frame) (number last count : ℕ) (t
     → last ≡ last_of (post_in l) f.lane → t ≡ is_next f last → t ≡ true
     → post_in k ≡ with_table (post_in l) (raised_below (post_in l).table f.entries 8) → known_in k ≡ known_in l
     → g ≡ order_frame (taken_raised (post_in k) f) f.lane f.serial.0 f.stamp.0 f.word → post_in m ≡ taken_raised (post_in k) f
-    → known_in m ≡ known_in k → 545 ≤ length m
+    → known_in m ≡ known_in k → 543 ≤ length m
     → ◌≡◌ {A = KnownDelivery} (record { post = post_in n; known = known_in n; count = count }) (delivered_row m)
     → stepped (hearings.TheVariants.Taken count) n g ≡ hears_by (known_in l) (post_in l) f
 unfolding hear_step hear_taken hear_took
@@ -246,7 +246,7 @@ hear_takes l k m n f g number last count t en z el et s ek kk eg em km h ed =
 
 pub hear_raises : (l m n : List ℕ) (f g : Frame) (number last count : ℕ) (t : Bool) (a : hearings.HearAnswer) → number ≡ hear_refusal (post_in l) f → number ≡ 0
     → last ≡ last_of (post_in l) f.lane → t ≡ is_next f last → t ≡ false
-    → g ≡ no_frame → post_in m ≡ with_table (post_in l) (raised_below (post_in l).table f.entries 8) → known_in m ≡ known_in l → 545 ≤ length m
+    → g ≡ no_frame → post_in m ≡ with_table (post_in l) (raised_below (post_in l).table f.entries 8) → known_in m ≡ known_in l → 543 ≤ length m
     → ◌≡◌ {A = KnownDelivery} (record { post = post_in n; known = known_in n; count = count }) (delivered_row m)
     → a ≡ other_answer f last count
     → stepped a n g ≡ hears_by (known_in l) (post_in l) f

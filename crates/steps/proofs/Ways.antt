@@ -13,7 +13,7 @@ use Rattle.frame.specs.declared.Frame.{Frame}
 use Rattle.frame.specs.Layout.{no_frame}
 use Rattle.cells.specs.Sets.{has_lane}
 use Rattle.post.specs.declared.Post.{Post}
-use Rattle.post.specs.Newest.{entries_sent}
+use Rattle.post.specs.Newest.{newest_entries}
 use Rattle.post.specs.Taking.{kept, ticked, own_taken}
 use Rattle.row.specs.Rows.{post_in, known_in, past_in}
 use Rattle.deliver.specs.Known.{KnownDelivery, delivered_from}
@@ -45,13 +45,13 @@ has_lane_lem lanes lane e = go (ltb lane 8) refl e
     go true s e = ltb-true lane 8 s
     go false s e = absurd (let z : true ≡ false = sym e ∙ rw s in let w : ◌≡◌ {A = ℕ} 0 1 = cc in omega arith)
 
-pub whole : (l : List ℕ) (lane : ℕ) → has_lane (get_or l 544 0) lane ≡ true → 545 ≤ length l
-whole l lane e = go (ltb 544 (length l)) refl
+pub whole : (l : List ℕ) (lane : ℕ) → has_lane (get_or l 542 0) lane ≡ true → 543 ≤ length l
+whole l lane e = go (ltb 542 (length l)) refl
   where
-    go : (t : Bool) → ltb 544 (length l) ≡ t → 545 ≤ length l
-    go true s = omega (arith, ltb-true 544 (length l) s)
+    go : (t : Bool) → ltb 542 (length l) ≡ t → 543 ≤ length l
+    go true s = omega (arith, ltb-true 542 (length l) s)
     go false s =
-        let z : get_or l 544 0 ≡ 0 = get_or-eq_default l 0 {n = 544} (ltb-false 544 (length l) s) in
+        let z : get_or l 542 0 ≡ 0 = get_or-eq_default l 0 {n = 542} (ltb-false 542 (length l) s) in
         let y : has_lane 0 lane ≡ true = rw z at e in
         absurd (let w : ◌≡◌ {A = ℕ} 0 1 = cc (has_no lane) in omega arith)
 
@@ -65,16 +65,16 @@ can_rise p z =
 
 -- a row that nothing refuses is whole, and of a lane
 pub can_send : (l : List ℕ) (n : ℕ) → n ≡ order_refusal (post_in l) → n ≡ 0
-    → (545 ≤ length l) × ((post_in l).lane < 8) × ((post_in l).clock.0 < 65535) × ((post_in l).serial.0 < 16)
+    → (543 ≤ length l) × ((post_in l).lane < 8) × ((post_in l).clock.0 < 65535) × ((post_in l).serial.0 < 16)
 unfolding post_in
 can_send l n en z =
     let p = post_in l in
     let r = can_rise p (sym en ∙ z) in
-    let y : has_lane p.setup.posts p.lane ≡ true = not-false (has_lane p.setup.posts p.lane) (order_passed p (sym en ∙ z)).0 in
-    (whole l p.lane y, has_lane_lem p.setup.posts p.lane y, r.0, r.1)
+    let y : has_lane p.posts p.lane ≡ true = not-false (has_lane p.posts p.lane) (order_passed p (sym en ∙ z)).0 in
+    (whole l p.lane y, has_lane_lem p.posts p.lane y, r.0, r.1)
 
 pub sends : (p a q : Post) (word lane serial clock : ℕ) (entries : List Entry) → lane ≡ p.lane → serial ≡ p.serial.0 → clock ≡ p.clock.0
-    → a ≡ ticked p (serial + 1) (clock + 1) → q ≡ kept a lane (serial + 1) (clock + 1) word → entries ≡ entries_sent q
+    → a ≡ ticked p (serial + 1) (clock + 1) → q ≡ kept a lane (serial + 1) (clock + 1) word → entries ≡ newest_entries q.table
     → (◌≡◌ {A = Frame} (record { kind = 1; sender = lane; lane = lane; serial = record { 0 = serial + 1 }; stamp = record { 0 = clock + 1 }; word = word; entries = entries }) (order_sent p word).frame)
     × (q ≡ own_taken p word)
 unfolding order_sent own_taken kept ticked
@@ -82,7 +82,7 @@ sends p a q word lane serial clock entries el es ec ea eq en = (rw (en, eq, ea, 
 
 -- the whole step: not refused, and refused
 pub orders_are : (l m n : List ℕ) (word number count : ℕ) (g : Frame) → number ≡ order_refusal (post_in l) → number ≡ 0
-    → g ≡ (order_sent (post_in l) word).frame → post_in m ≡ own_taken (post_in l) word → known_in m ≡ known_in l → 545 ≤ length m
+    → g ≡ (order_sent (post_in l) word).frame → post_in m ≡ own_taken (post_in l) word → known_in m ≡ known_in l → 543 ≤ length m
     → ◌≡◌ {A = KnownDelivery} (record { post = post_in n; known = known_in n; count = count }) (delivered_row m)
     → stepped (orders.TheVariants.Sent g.serial g.stamp count) n g ≡ orders_by (known_in l) (post_in l) word
 unfolding orders_by order_step order_sent
@@ -103,27 +103,27 @@ order_stays l word number g en h eg =
 -- ---- beacon
 
 -- a row in whose set of posts its lane is, is whole, and of a lane
-pub in_yard_lem : (l : List ℕ) (lane posts : ℕ) (t : Bool) → lane ≡ (post_in l).lane → posts ≡ (post_in l).setup.posts → t ≡ has_lane posts lane → t ≡ true
-    → (545 ≤ length l) × (lane < 8)
+pub in_yard_lem : (l : List ℕ) (lane posts : ℕ) (t : Bool) → lane ≡ (post_in l).lane → posts ≡ (post_in l).posts → t ≡ has_lane posts lane → t ≡ true
+    → (543 ≤ length l) × (lane < 8)
 unfolding post_in
 in_yard_lem l lane posts t el ep et s =
-    let y : has_lane (post_in l).setup.posts lane ≡ true = rw ep at (sym et ∙ s) in
-    (whole l lane y, has_lane_lem (post_in l).setup.posts lane y)
+    let y : has_lane (post_in l).posts lane ≡ true = rw ep at (sym et ∙ s) in
+    (whole l lane y, has_lane_lem (post_in l).posts lane y)
 
-pub beacon_sends : (p : Post) (lane posts : ℕ) (t : Bool) (entries : List Entry) → lane ≡ p.lane → posts ≡ p.setup.posts → t ≡ has_lane posts lane → t ≡ true
-    → entries ≡ entries_sent p
+pub beacon_sends : (p : Post) (lane posts : ℕ) (t : Bool) (entries : List Entry) → lane ≡ p.lane → posts ≡ p.posts → t ≡ has_lane posts lane → t ≡ true
+    → entries ≡ newest_entries p.table
     → ◌≡◌ {A = Beaconed} (record { answer = beacons.TheVariants.Sent; frame = record { kind = 2; sender = lane; lane = 0; serial = record { 0 = 0 }; stamp = record { 0 = 0 }; word = 0; entries = entries } })
     (beacon_step p)
 unfolding beacon_step
 beacon_sends p lane posts t entries el ep et s en =
-    let y : has_lane p.setup.posts p.lane ≡ true = rw (el, ep) at (sym et ∙ s) in
+    let y : has_lane p.posts p.lane ≡ true = rw (el, ep) at (sym et ∙ s) in
     rw (y, el, en)
 
-pub beacon_stays : (p : Post) (lane posts : ℕ) (t : Bool) (g : Frame) → lane ≡ p.lane → posts ≡ p.setup.posts → t ≡ has_lane posts lane → not t ≡ true
+pub beacon_stays : (p : Post) (lane posts : ℕ) (t : Bool) (g : Frame) → lane ≡ p.lane → posts ≡ p.posts → t ≡ has_lane posts lane → not t ≡ true
     → g ≡ no_frame → ◌≡◌ {A = Beaconed} (record { answer = beacons.TheVariants.Refused 21; frame = g }) (beacon_step p)
 unfolding beacon_step
 beacon_stays p lane posts t g el ep et s eg =
-    let y : not (has_lane p.setup.posts p.lane) ≡ true = rw (el, ep) at (rw et at s) in
+    let y : not (has_lane p.posts p.lane) ≡ true = rw (el, ep) at (rw et at s) in
     rw (y, eg)
 
 -- ---- the number and the values beside the whole answer, and the cells past the record

@@ -2,12 +2,12 @@
 use Rattle.std.specs.Prelude.{ℕ, ◌+◌, max, Bool, cond, not, ◌&&◌, ◌||◌, ltb, leb, eqb}
 use Rattle.frame.specs.Lanes.{any_below}
 use Rattle.frame.specs.Layout.{entry_of}
+use Rattle.frame.specs.declared.Entry.{Entry}
 use Rattle.frame.specs.declared.Frame.{Frame}
 use Rattle.cells.specs.Sets.{has_lane}
 use Rattle.cells.specs.Tables.{order_place}
 use Rattle.post.specs.declared.Post.{Post}
 use Rattle.post.specs.Record.{is_post, is_source, last_of}
-use Rattle.post.specs.Newest.{has_stamp}
 use Rattle.deliver.specs.Delivery.{stamp_at}
 
 -- 21. "Post not in the yard."
@@ -29,8 +29,8 @@ clock_spent clock = leb 65535 clock
 -- the refusal of an order, or 0
 unfoldable pub order_refusal : Post → ℕ
 order_refusal p =
-    cond (not_in_yard p.setup.posts p.lane) 21
-    (cond (no_source p.setup.sources p.lane) 22
+    cond (not_in_yard p.posts p.lane) 21
+    (cond (no_source p.sources p.lane) 22
     (cond (serials_spent p.serial.0) 23
     (cond (clock_spent p.clock.0) 24
     0)))
@@ -50,13 +50,17 @@ clock_passes p f = is_next f (last_of p f.lane) && is_source p p.lane && leb 655
 abbrev pub own_broadcast : Post → Frame → Bool
 own_broadcast p f = eqb f.sender p.lane
 
+-- an entry that has a stamp
+abbrev pub has_stamp : Entry → Bool
+has_stamp e = not (eqb e.stamp.0 0)
+
 -- "an entry belongs to a lane that is no source"
 unfoldable pub strange_entries : ℕ → Frame → Bool
 strange_entries sources f = any_below (λ (i : ℕ). has_stamp (entry_of f i) && not (has_lane sources i)) 8
 
 -- 28. "Sender not in the yard, or the order or an entry belongs to a lane that is no source."
 abbrev pub strange : Post → Frame → Bool
-strange p f = not (is_post p f.sender) || (is_order f && not (is_source p f.lane)) || strange_entries p.setup.sources f
+strange p f = not (is_post p f.sender) || (is_order f && not (is_source p f.lane)) || strange_entries p.sources f
 
 -- the stamp of the last order taken from the frame's lane
 abbrev pub last_stamp : Post → Frame → ℕ
@@ -76,7 +80,7 @@ beyond_own p f =
 -- the refusal of a hearing, or 0
 unfoldable pub hear_refusal : Post → Frame → ℕ
 hear_refusal p f =
-    cond (not_in_yard p.setup.posts p.lane) 21
+    cond (not_in_yard p.posts p.lane) 21
     (cond (clock_passes p f) 24
     (cond (own_broadcast p f) 26
     (cond (strange p f) 28
@@ -86,4 +90,4 @@ hear_refusal p f =
 
 -- the refusal of a beacon, or 0
 abbrev pub beacon_refusal : Post → ℕ
-beacon_refusal p = cond (not_in_yard p.setup.posts p.lane) 21 0
+beacon_refusal p = cond (not_in_yard p.posts p.lane) 21 0

@@ -6,8 +6,7 @@ ghost use Rattle.frame.specs.Layout.{entry_of};
 ghost use Rattle.post.specs.Record.{is_source, last_of};
 ghost use Rattle.post.specs.Newest.{raised, raised_below, order_frame};
 ghost use Rattle.row.specs.Rows.{post_in, known_in, past_in, with_table};
-ghost use Rattle.steps.specs.Refusals.{is_next, strange_entries, strange, beyond_own, hear_refusal};
-ghost use Rattle.post.specs.Newest.{has_stamp};
+ghost use Rattle.steps.specs.Refusals.{is_next, has_stamp, strange_entries, strange, beyond_own, hear_refusal};
 ghost use Rattle.steps.specs.Steps.{other_answer};
 ghost use Rattle.steps.specs.Loops.{taken_raised};
 
@@ -139,7 +138,7 @@ fn own_entry(f: Frame, lane: u16) -> Entry
 
 // Part 1: each entry raises the table.
 pub(crate) fn raise_all(row: &mut [u16], entries: [Entry; Frame::LANES])
-    requires* { do ⌜ 545 ≤ (← ⟦row.len()⟧) ⌝ }
+    requires* { do ⌜ 543 ≤ (← ⟦row.len()⟧) ⌝ }
     ensures row_after { post_in row.new ≡ with_table (post_in row.old) (raised_below (post_in row.old).table entries 8) }
     ensures known { known_in row.new ≡ known_in row.old }
     ensures past { past_in row.new ≡ past_in row.old }
@@ -172,7 +171,7 @@ fn raise(table: &mut [u16], lane: usize, e: Entry)
 
 // Part 3, once the entries have raised the table: the order is taken, and broadcast under the post's own lane as sender.
 pub(crate) fn take(row: &mut [u16], f: Frame) -> Frame
-    requires* { do ⌜ (545 ≤ (← ⟦row.len()⟧)) × ((post_in row.old).lane < 8) × (has_lane (post_in row.old).setup.sources (post_in row.old).lane ≡ true → max (post_in row.old).clock.0 f.stamp.0 < 65535) ⌝ }
+    requires* { do ⌜ (543 ≤ (← ⟦row.len()⟧)) × ((post_in row.old).lane < 8) × (has_lane (post_in row.old).sources (post_in row.old).lane ≡ true → max (post_in row.old).clock.0 f.stamp.0 < 65535) ⌝ }
     ensures value { result ≡ order_frame (taken_raised (post_in row.old) f) f.lane f.serial.0 f.stamp.0 f.word }
     ensures post { post_in row.new ≡ taken_raised (post_in row.old) f }
     ensures known { known_in row.new ≡ known_in row.old }
@@ -181,7 +180,7 @@ pub(crate) fn take(row: &mut [u16], f: Frame) -> Frame
     let numbers = row::read_numbers(row);
     let sender = numbers.lane as u8;
     keep_and_tick(row, f);
-    let entries = newest::entries_sent(row);
+    let entries = newest::newest_entries(row);
     let serial = f.serial;
     let stamp = f.stamp;
     Frame {
@@ -197,7 +196,7 @@ pub(crate) fn take(row: &mut [u16], f: Frame) -> Frame
 
 // The order is kept, and the clock of a source passes its stamp.
 fn keep_and_tick(row: &mut [u16], f: Frame)
-    requires* { do ⌜ (545 ≤ (← ⟦row.len()⟧)) × (has_lane (post_in row.old).setup.sources (post_in row.old).lane ≡ true → max (post_in row.old).clock.0 f.stamp.0 < 65535) ⌝ }
+    requires* { do ⌜ (543 ≤ (← ⟦row.len()⟧)) × (has_lane (post_in row.old).sources (post_in row.old).lane ≡ true → max (post_in row.old).clock.0 f.stamp.0 < 65535) ⌝ }
     ensures row_after { post_in row.new ≡ taken_raised (post_in row.old) f }
     ensures known { known_in row.new ≡ known_in row.old }
     ensures past { past_in row.new ≡ past_in row.old }

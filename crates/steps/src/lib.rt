@@ -144,7 +144,7 @@ pub fn beacon(row: &[u16]) -> Beaconed
             frame: none,
         };
     }
-    let entries = newest::entries_sent(row);
+    let entries = newest::newest_entries(row);
     let frame = Frame {
         kind: Frame::BEACON,
         sender: lane as u8,

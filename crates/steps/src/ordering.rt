@@ -28,7 +28,7 @@ pub(crate) fn refusal(row: &[u16]) -> u8
 
 // The post takes its own order, and broadcasts it.
 pub(crate) fn send(row: &mut [u16], word: u16) -> Frame
-    requires* { do ⌜ (545 ≤ (← ⟦row.len()⟧)) × ((post_in row.old).lane < 8) × ((post_in row.old).clock.0 < 65535) × ((post_in row.old).serial.0 < 16) ⌝ }
+    requires* { do ⌜ (543 ≤ (← ⟦row.len()⟧)) × ((post_in row.old).lane < 8) × ((post_in row.old).clock.0 < 65535) × ((post_in row.old).serial.0 < 16) ⌝ }
     ensures value { result ≡ (order_sent (post_in row.old) word).frame }
     ensures post { post_in row.new ≡ own_taken (post_in row.old) word }
     ensures known { known_in row.new ≡ known_in row.old }
@@ -42,7 +42,7 @@ pub(crate) fn send(row: &mut [u16], word: u16) -> Frame
     let stamp = Stamp(clock.0 + 1);
     row::tick(row, SerialCell(serial.0 as u16), stamp);
     row::keep(row, lane, serial, stamp, word);
-    let entries = newest::entries_sent(row);
+    let entries = newest::newest_entries(row);
     Frame {
         kind: Frame::ORDER,
         sender: lane,

@@ -9,7 +9,6 @@ use Rattle.yard.specs.Singles.{post_orders, post_orders_air, first_after, yard_o
 use Rattle.yard.specs.Worlds.{World, order, hear, beacon, single}
 use Rattle.roll.specs.RollCall.{roll_refusal, roll_call, roll_call_air}
 use Rattle.roll.specs.Runs.{one, roll, answer, step}
-use Rattle.table.specs.Posts.{three_setup}
 use Rattle.table.specs.Scripts.{Refuses, order_refused, hear_refused, beacon_refused, call_refused}
 
 -- ---- a lane over 7
@@ -29,7 +28,7 @@ beacon_lane w = (refl, refl)
 -- ---- the yard `three`, on any air
 
 abbrev three_on : List ℕ → World
-three_on air = record { yard = fresh_yard three_setup; air = air }
+three_on air = record { yard = fresh_yard 0b111 0b011 0b101; air = air }
 
 pub order_word : (air : List ℕ) → Refuses (three_on air) (one (order 0 65536)) (order_refused 5)
 unfolding fresh_yard answer step single post_orders post_orders_air first_after yard_orders yard_orders_air

@@ -19,8 +19,7 @@ use Rattle.yard.specs.Singles.{frames_after, post_beacons, post_beacons_air, yar
 use Rattle.yard.specs.Worlds.{World, beacon, single, singles}
 use Rattle.roll.specs.RollCall.{lane_hears, lanes_hears, posts_hear, beacons_sent, beacons_heard, posts_hear_beacons, roll_steps, source_spent, roll_refusal, roll_call, roll_call_air}
 use Rattle.roll.specs.Runs.{Step, one, roll, answer, step, run}
-use Rattle.table.specs.Posts.{three_setup, alone_setup}
-use Rattle.table.specs.Scripts.{Refuses, beacon_sent, beacon_refused, calls, call_refused, relay_setup, three, alone, relay_alone, repeated}
+use Rattle.table.specs.Scripts.{Refuses, beacon_sent, beacon_refused, calls, call_refused, three, alone, relay_alone, repeated}
 
 -- a yard whose post of a lane has sent n beacons, with some frames on the air, and any air
 abbrev sent_so_far : Yard → ℕ → List ℕ → ℕ → ℕ → World
@@ -71,21 +70,21 @@ run_more w (suc n) s = run_more (step w s) n s
 abbrev three_yard : Yard
 three_yard = three.yard
 
-by_0 : Adds three_yard 0 (beacon_frame (fresh_post 0 three_setup)) (one (beacon 0))
+by_0 : Adds three_yard 0 (beacon_frame (fresh_post 0 0b111 0b011 0b101)) (one (beacon 0))
 unfolding fresh_yard step single yard_beacons yard_beacons_air post_beacons post_beacons_air beacon_step
 by_0 air frames n whole l = rw (whole, lt-leb 128 n l) refl
 
-by_2 : Adds three_yard 2 (beacon_frame (fresh_post 2 three_setup)) (one (beacon 2))
+by_2 : Adds three_yard 2 (beacon_frame (fresh_post 2 0b111 0b011 0b101)) (one (beacon 2))
 unfolding fresh_yard step single yard_beacons yard_beacons_air post_beacons post_beacons_air beacon_step
 by_2 air frames n whole l = rw (whole, lt-leb 128 n l) refl
 
 after_0 : (n : ℕ) → n ≤ 128 → Counted three_yard 0 (run three (repeated n (one (beacon 0)))) n
 unfolding fresh_yard
-after_0 n l = counted three_yard 0 (beacon_frame (fresh_post 0 three_setup)) (one (beacon 0)) by_0 n 0 n 0 three.air refl (omega arith) l
+after_0 n l = counted three_yard 0 (beacon_frame (fresh_post 0 0b111 0b011 0b101)) (one (beacon 0)) by_0 n 0 n 0 three.air refl (omega arith) l
 
 after_2 : (n : ℕ) → n ≤ 128 → Counted three_yard 2 (run three (repeated n (one (beacon 2)))) n
 unfolding fresh_yard
-after_2 n l = counted three_yard 2 (beacon_frame (fresh_post 2 three_setup)) (one (beacon 2)) by_2 n 0 n 0 three.air refl (omega arith) l
+after_2 n l = counted three_yard 2 (beacon_frame (fresh_post 2 0b111 0b011 0b101)) (one (beacon 2)) by_2 n 0 n 0 three.air refl (omega arith) l
 
 module _ (air : List ℕ) (frames : ℕ) (whole : length air ≡ 65536) where
   passes : answer (sent_so_far three_yard 0 air frames 127) (one (beacon 0)) ≡ beacon_sent
@@ -148,21 +147,21 @@ relay_yard = relay_alone.yard
 abbrev alone_yard : Yard
 alone_yard = alone.yard
 
-by_relay : Adds relay_yard 0 (beacon_frame (fresh_post 0 relay_setup)) (one (beacon 0))
+by_relay : Adds relay_yard 0 (beacon_frame (fresh_post 0 0b1 0b0 0b0)) (one (beacon 0))
 unfolding fresh_yard step single yard_beacons yard_beacons_air post_beacons post_beacons_air beacon_step
 by_relay air frames n whole l = rw (whole, lt-leb 128 n l) refl
 
-by_roll : Adds alone_yard 0 (beacon_frame (fresh_post 0 alone_setup)) roll
+by_roll : Adds alone_yard 0 (beacon_frame (fresh_post 0 0b1 0b1 0b1)) roll
 unfolding fresh_yard step single singles yard_beacons yard_beacons_air post_beacons post_beacons_air beacon_step lane_hears lanes_hears posts_hear beacons_sent beacons_heard posts_hear_beacons roll_steps source_spent any_below roll_refusal roll_call roll_call_air
 by_roll air frames n whole l = rw (whole, lt-leb 128 n l) refl
 
 after_relay : (n : ℕ) → n ≤ 128 → Counted relay_yard 0 (run relay_alone (repeated n (one (beacon 0)))) n
 unfolding fresh_yard
-after_relay n l = counted relay_yard 0 (beacon_frame (fresh_post 0 relay_setup)) (one (beacon 0)) by_relay n 0 n 0 relay_alone.air refl (omega arith) l
+after_relay n l = counted relay_yard 0 (beacon_frame (fresh_post 0 0b1 0b0 0b0)) (one (beacon 0)) by_relay n 0 n 0 relay_alone.air refl (omega arith) l
 
 after_rolls : (n : ℕ) → n ≤ 128 → Counted alone_yard 0 (run alone (repeated n roll)) n
 unfolding fresh_yard
-after_rolls n l = counted alone_yard 0 (beacon_frame (fresh_post 0 alone_setup)) roll by_roll n 0 n 0 alone.air refl (omega arith) l
+after_rolls n l = counted alone_yard 0 (beacon_frame (fresh_post 0 0b1 0b1 0b1)) roll by_roll n 0 n 0 alone.air refl (omega arith) l
 
 module _ (air : List ℕ) (frames : ℕ) (whole : length air ≡ 65536) where
   relay_calls : answer (sent_so_far relay_yard 0 air frames 128) roll ≡ calls 0

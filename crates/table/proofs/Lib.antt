@@ -3,4 +3,3 @@ pub mod YardTable
 pub mod Beacons
 pub mod BadInput
 pub mod RefusalTable
-pub mod EntryTable

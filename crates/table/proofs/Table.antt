@@ -5,7 +5,7 @@ use Rattle.frame.specs.Layout.{frame_of, bytes_of}
 use Rattle.frame.specs.Refusals.{bad_entries, frame_refusal, read_refusal}
 use Rattle.frame.specs.ReadWrite.{write_refusal, read_of, written}
 use Rattle.cells.specs.Tables.{entry_place, stamp_under, with_stamp, order_place}
-use Rattle.post.specs.Newest.{raised, raised_below, newer, newest_below, others_below, entries_before, entry_sent, entries_sent}
+use Rattle.post.specs.Newest.{raised, raised_below, newer, newest_below, newest_entries}
 use Rattle.post.specs.Taking.{kept, ticked, own_taken, raised_post, taken}
 use Rattle.deliver.specs.Delivery.{all_below, is_logged, is_due, due_below, comes_before, insert_by, sort_by, due_places, due_log, delivered}
 use Rattle.judge.specs.Judgement.{bad_orders, bad_log, bad_record}
@@ -16,7 +16,7 @@ use Rattle.table.specs.Posts.{orders_sent}
 use Rattle.table.specs.Cases.{Bench}
 
 pub bench : Bench
-unfolding any_below frame_of bytes_of bad_entries frame_refusal read_refusal write_refusal read_of written entry_place stamp_under with_stamp order_place raised raised_below newer newest_below others_below entries_before entry_sent entries_sent kept ticked own_taken raised_post taken all_below is_logged is_due due_below comes_before insert_by sort_by due_places due_log delivered bad_orders bad_log bad_record order_refusal strange_entries hear_refusal order_sent hear_taken hear_other hear_step order_refusal_singly order_singly order_buffer hear_refusal_singly hear_singly hear_buffer orders_sent
+unfolding any_below frame_of bytes_of bad_entries frame_refusal read_refusal write_refusal read_of written entry_place stamp_under with_stamp order_place raised raised_below newer newest_below newest_entries kept ticked own_taken raised_post taken all_below is_logged is_due due_below comes_before insert_by sort_by due_places due_log delivered bad_orders bad_log bad_record order_refusal strange_entries hear_refusal order_sent hear_taken hear_other hear_step order_refusal_singly order_singly order_buffer hear_refusal_singly hear_singly hear_buffer orders_sent
 bench = record {
   P2-written = refl;
   P2-read = refl;

@@ -12,7 +12,7 @@ use Rattle.steps.specs.Answers.{order_number, hear_number}
 use Rattle.steps.specs.Steps.{hear_step}
 use Rattle.steps.specs.declared.HearAnswer.TheVariants.{Taken, Again, Early}
 use Rattle.single.specs.Single.{order_singly}
-use Rattle.table.specs.Posts.{alone_setup, fresh, blank, after, frame_of_order, hearing, frame_of_hearing, items, frame0, post1, frame1, frame2, post0, post2, serial17, orders_sent, clock_at}
+use Rattle.table.specs.Posts.{fresh, blank, after, frame_of_order, hearing, frame_of_hearing, items, frame0, post1, frame1, frame2, post0, post2, serial17, orders_sent, clock_at}
 
 -- P2: "01 00 01 01 00 03 00 5A 01 00 04 01 00 03, then eighteen 00"
 abbrev pub frame4_bytes : List ℕ
@@ -65,7 +65,7 @@ pub record Bench : Type 0 where
   pub P3-empty : items (hearing (fresh 2) frame2).post ≡ []
   pub P3-only : items (hearing (hearing (fresh 2) frame2).post frame0).post ≡ (1 ∷ 0 ∷ 417 ∷ []) ∷ []
   -- P5, its order: "`(order 0 5)` logs (1 0 5)"
-  pub P5-order : items (after (fresh_post 0 alone_setup) 5) ≡ (1 ∷ 0 ∷ 5 ∷ []) ∷ []
+  pub P5-order : items (after (fresh_post 0 1 1 1) 5) ≡ (1 ∷ 0 ∷ 5 ∷ []) ∷ []
   -- P7: "a frame heard twice: again, clock unchanged"
   pub P7-again : (hearing post1 frame0).answer ≡ Again 0
   pub P7-clock-before : post1.clock.0 ≡ 2

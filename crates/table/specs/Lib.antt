@@ -3,4 +3,3 @@ pub mod Cases
 pub mod Scripts
 pub mod YardCases
 pub mod RefusalCases
-pub mod EntryCases

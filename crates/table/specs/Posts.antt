@@ -1,21 +1,13 @@
 -- The bench's stories, played by posts run singly that hand each other their broadcasts. Assumes nothing.
 use Rattle.std.specs.Prelude.{ℕ, zero, suc, ◌/◌, List, [], ◌∷◌, map, get_or, take, set, replicate}
-use Rattle.setup.specs.declared.Setup.{Setup}
 use Rattle.post.specs.declared.Post.{Post}
 use Rattle.post.specs.Record.{fresh_post, with_clock}
 use Rattle.single.specs.declared.Heard.{Heard}
 use Rattle.single.specs.Single.{order_singly, order_buffer, hear_singly, hear_buffer}
 
--- `(yard (0 both) (1 source) (2 dest))` and `(yard (0 both))`
-abbrev pub three_setup : Setup
-three_setup = record { posts = 0b111; sources = 0b011; dests = 0b101; entries = 8 }
-
-abbrev pub alone_setup : Setup
-alone_setup = record { posts = 0b1; sources = 0b1; dests = 0b1; entries = 8 }
-
--- a fresh post of the first
+-- `(yard (0 both) (1 source) (2 dest))`
 abbrev pub fresh : ℕ → Post
-fresh lane = fresh_post lane three_setup
+fresh lane = fresh_post lane 0b111 0b011 0b101
 
 abbrev pub blank : List ℕ
 blank = replicate 32 0

@@ -1,6 +1,5 @@
 -- The bench's yards and lists of steps, and what is compared of them. Assumes nothing.
 use Rattle.std.specs.Prelude.{ℕ, zero, suc, ◌≡◌, List, [], ◌∷◌, ◌++◌, map, replicate}
-use Rattle.setup.specs.declared.Setup.{Setup}
 use Rattle.steps.specs.declared.OrderAnswer as orders
 use Rattle.steps.specs.declared.HearAnswer as hearings
 use Rattle.steps.specs.declared.BeaconAnswer as beaconing
@@ -9,7 +8,6 @@ use Rattle.yard.specs.Worlds.{World, order, hear}
 use Rattle.roll.specs.declared.RollAnswer as calling
 use Rattle.roll.specs.Runs.{Step, one, Answer, ordered, heard, beaconed, called, answer, step, Order}
 use Rattle.roll.specs.Logs.{log_at}
-use Rattle.table.specs.Posts.{three_setup, alone_setup}
 
 -- ---- what is compared
 
@@ -85,28 +83,22 @@ call_refused number = called (calling.TheVariants.Refused number)
 abbrev pub fresh_with : ℕ → Yard → World
 fresh_with bytes yard = record { yard = yard; air = replicate bytes 0 }
 
--- `(yard (0 relay))` and `(yard (0 both) (1 both))`
-abbrev pub relay_setup : Setup
-relay_setup = record { posts = 0b1; sources = 0b0; dests = 0b0; entries = 8 }
-
-abbrev pub two_setup : Setup
-two_setup = record { posts = 0b11; sources = 0b11; dests = 0b11; entries = 8 }
-
+-- `(yard (0 both) (1 source) (2 dest))`, `(yard (0 both))`, `(yard (0 relay))` and `(yard (0 both) (1 both))`
 abbrev pub three : World
-three = fresh_with 65536 (fresh_yard three_setup)
+three = fresh_with 65536 (fresh_yard 0b111 0b011 0b101)
 
 abbrev pub alone : World
-alone = fresh_with 65536 (fresh_yard alone_setup)
+alone = fresh_with 65536 (fresh_yard 0b1 0b1 0b1)
 
 abbrev pub relay_alone : World
-relay_alone = fresh_with 65536 (fresh_yard relay_setup)
+relay_alone = fresh_with 65536 (fresh_yard 0b1 0b0 0b0)
 
 abbrev pub two : World
-two = fresh_with 65536 (fresh_yard two_setup)
+two = fresh_with 65536 (fresh_yard 0b11 0b11 0b11)
 
 -- the first with an air of another length
 abbrev pub air_of : ℕ → World
-air_of bytes = fresh_with bytes (fresh_yard three_setup)
+air_of bytes = fresh_with bytes (fresh_yard 0b111 0b011 0b101)
 
 -- ---- the lists of steps
 

@@ -7,9 +7,8 @@ use native.Mathlib.Omega.{arith}
 use lib.ListN.{length}
 use Rattle.text.specs.Bytes.{bytes}
 use Rattle.text.specs.Decimal.{decimal}
-use Rattle.scan.specs.declared.Scan.{Scan}
 use Rattle.scan.specs.Scan.{read_text, read_number}
-use Rattle.lines.specs.Forms.{Item, text, number, read_items, read_form}
+use Rattle.lines.specs.Forms.{Item, text, number, read_form}
 use Rattle.scan.proofs.Here.{Here, here_split}
 use Rattle.scan.proofs.Number.{done, number_sound}
 use Rattle.scan.proofs.Reading.{text_sound, text_complete, no_digit, text_step, number_step, text_back, number_back}
@@ -53,37 +52,31 @@ two_sound s w at k =
     let r5 = text_back s (w ++ decimal r2.0 ++ bytes " " ++ decimal r4.0) (bytes ")\n") at r2.0 r4.0 c4 r4.3 r4.2 k in
     (r2.0, r4.0, r2.1, r4.1, r5.0, r5.1)
 
--- a word and a number, `)` and what follows it
-abbrev pub form1 : List ℕ → List ℕ → List Item
-form1 w u = text w ∷ number ∷ text (41 ∷ u) ∷ []
+-- a word and a number
+abbrev pub form1 : List ℕ → List Item
+form1 w = text w ∷ number ∷ text (bytes ")\n") ∷ []
 
-abbrev pub text1 : List ℕ → List ℕ → ℕ → List ℕ
-text1 w u a = w ++ decimal a ++ (41 ∷ u)
+abbrev pub text1 : List ℕ → ℕ → List ℕ
+text1 w a = w ++ decimal a ++ bytes ")\n"
 
-pub one_complete : (s w u : List ℕ) (at a : ℕ) → a < 100000 → Here s at (text1 w u a) → read_form s (form1 w u) at ≡ done (at + length (text1 w u a)) 0 a
-one_complete s w u at a la h =
-    let h3 = here_split s (w ++ decimal a) (41 ∷ u) at h in
+pub one_complete : (s w : List ℕ) (at a : ℕ) → a < 100000 → Here s at (text1 w a) → read_form s (form1 w) at ≡ done (at + length (text1 w a)) 0 a
+one_complete s w at a la h =
+    let h3 = here_split s (w ++ decimal a) (bytes ")\n") at h in
     let h2 = here_split s w (decimal a) at h3.0 in
     rw (
       text_complete s w at 0 0 h2.0,
       number_step s w at 0 0 a la h2.1 (no_digit s _ _ 41 (omega arith) h3.1),
-      text_step s (w ++ decimal a) (41 ∷ u) at 0 a h3.1,
+      text_step s (w ++ decimal a) (bytes ")\n") at 0 a h3.1,
     )
 
-pub one_sound : (s w u : List ℕ) (at : ℕ) → (read_form s (form1 w u) at).ok ≡ true
-    → (a : ℕ) × (a < 100000) × Here s at (text1 w u a) × (read_form s (form1 w u) at ≡ done (at + length (text1 w u a)) 0 a)
-one_sound s w u at k =
+pub one_sound : (s w : List ℕ) (at : ℕ) → (read_form s (form1 w) at).ok ≡ true
+    → (a : ℕ) × (a < 100000) × Here s at (text1 w a) × (read_form s (form1 w) at ≡ done (at + length (text1 w a)) 0 a)
+one_sound s w at k =
     let c1 = read_text s w (done at 0 0) in
     let c2 = read_number s c1 in
-    let k2 = (text_sound s (41 ∷ u) c2 k).0 in
+    let k2 = (text_sound s (bytes ")\n") c2 k).0 in
     let k1 = (number_sound s c1 k2).0 in
     let r1 = text_sound s w (done at 0 0) k1 in
     let r2 = number_back s w at 0 0 c1 r1.2 r1.1 k2 in
-    let r3 = text_back s (w ++ decimal r2.0) (41 ∷ u) at 0 r2.0 c2 r2.3 r2.2 k in
+    let r3 = text_back s (w ++ decimal r2.0) (bytes ")\n") at 0 r2.0 c2 r2.3 r2.2 k in
     (r2.0, r2.1, r3.0, r3.1)
-
--- a scan that failed stays so
-pub all_ok : (s : List ℕ) (is : List Item) (c : Scan) → (read_items s is c).ok ≡ true → c.ok ≡ true
-all_ok s [] c h = h
-all_ok s (text t ∷ is) c h = (text_sound s t c (all_ok s is (read_text s t c) h)).0
-all_ok s (number ∷ is) c h = (number_sound s c (all_ok s is (read_number s c) h)).0

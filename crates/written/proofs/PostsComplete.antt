@@ -1,12 +1,12 @@
 -- The posts that are written in a yard line are read. Assumes nothing.
 use mathlib.Core.Path.{◌≡◌, refl, sym, ap, ◌∙◌}
 use mathlib.Core.Bool.{Bool, true, false, cond, and-false}
-use mathlib.Core.List.{List, ◌∷◌, ◌++◌}
+use mathlib.Core.List.{List, ◌++◌}
 use Prim.Native.Nat.{ℕ, zero, suc, ◌+◌, ◌%◌, ◌^◌, ◌<◌, ◌≤◌}
 use native.Mathlib.Nat.{mod-lt, mod-one}
 use native.Mathlib.Omega.{arith}
 use lib.Bits.{or_zero_r}
-use lib.ListN.{length, get_or, length-append}
+use lib.ListN.{length, length-append}
 use lib.Pow.{pow_pos}
 use borrow.Author.Tests.{lt-ltb}
 use Rattle.text.specs.Bytes.{bytes}
@@ -14,11 +14,9 @@ use Rattle.text.specs.Decimal.{decimal}
 use Rattle.cells.specs.Sets.{has_lane}
 use Rattle.lines.specs.declared.YardScan.{YardScan}
 use Rattle.scan.specs.Scan.{stands}
-use Rattle.lines.specs.Forms.{read_post, bit_of, post_added, entries_begin, post_begins, posts_read}
+use Rattle.lines.specs.Forms.{read_post, bit_of, post_added, posts_read}
 use Rattle.written.specs.Written.{role_text, post_texts, Roles}
-use Rattle.scan.proofs.Here.{Here, here_split, here_stands, here_head, here_at}
-use Rattle.scan.proofs.Decimal.{decimal_digit}
-use Rattle.scan.proofs.TextLaws.{stands_not}
+use Rattle.scan.proofs.Here.{Here, here_split, here_stands, stands_here, here_head}
 use Rattle.written.proofs.Posts.{role_name, post_text, post_complete}
 use Rattle.written.proofs.Sets.{bit_is, low_more, low_all}
 use Rattle.written.proofs.Texts.{with_lane, is_source, is_dest, no_role, post_yes, post_no}
@@ -62,27 +60,9 @@ set_is a k test h e = ap (λ (t : Bool). with_lane (a % 2 ^ k) t k) (sym e) ∙ 
 set_no : (a k : ℕ) → k < 8 → has_lane a k ≡ false → a % 2 ^ suc k ≡ a % 2 ^ k
 set_no a k h e = sym (set_is a k false h e) ∙ or_zero_r (a % 2 ^ k)
 
--- a post begins where one is written, and not where `)` or the last item is
-post_begins_lem : (s : List ℕ) (at lane : ℕ) (role : List ℕ) → lane < 8 → Here s at (post_text lane role) → post_begins s at ≡ true
-unfolding post_begins
-post_begins_lem s at lane role l h =
-    let b = here_stands s (bytes " (") at (here_split s (bytes " (") (decimal lane ++ bytes " " ++ role ++ bytes ")") at h).0 in
-    let d : get_or s (at + 2) 0 ≡ 48 + lane = here_at s _ at 2 (rw (decimal_digit lane (omega arith)) at h) (omega arith) in
-    rw (b, stands_not s (bytes " (entries ") at 2 (at + 2) refl (omega arith) (λ e. omega arith))
-
-pub none_begins : (s u : List ℕ) (at : ℕ) → Here s at (41 ∷ u) → (post_begins s at ≡ false) × (entries_begin s at ≡ false)
-unfolding post_begins
-none_begins s u at h =
-    let e = here_head s u at 41 h in
-    (rw (stands_not s (bytes " (") at 0 at (omega arith) (omega arith) (λ z. omega arith)), stands_not s (bytes " (entries ") at 0 at (omega arith) (omega arith) (λ z. omega arith))
-
-pub last_begins : (s : List ℕ) (at : ℕ) → Here s at (bytes " (entries ") → (post_begins s at ≡ false) × (entries_begin s at ≡ true)
-unfolding post_begins
-last_begins s at h = let b = here_stands s (bytes " (entries ") at h in (rw b (and-false (stands s at (bytes " ("))), b)
-
 -- a scan that was not refused
 abbrev pub reached : ℕ → ℕ → ℕ → ℕ → Bool → YardScan
-reached at p s d r = record { ok = true; at = at; posts = p; sources = s; dests = d; rising = r; entries = 8 }
+reached at p s d r = record { ok = true; at = at; posts = p; sources = s; dests = d; rising = r }
 
 same_scan : (at at' p p' s s' d d' : ℕ) (r r' : Bool) → at ≡ at' → p ≡ p' → s ≡ s' → d ≡ d' → r ≡ r'
     → reached at p s d r ≡ reached at' p' s' d' r'
@@ -103,9 +83,9 @@ module _ (s : List ℕ) (from p so d : ℕ) (fs : Roles p so) (fd : Roles p d) w
   post_here k e w = (here_split s (post_texts p so d k) (post_text k (role_text so d k)) from (rw (post_yes p so d k e) at w)).1
 
   -- a post is read
-  read_on_lem : (k : ℕ) → k < 8 → has_lane p k ≡ true → Here s from (post_texts p so d (suc k)) → post_added (up_to k) (read_post s (up_to k).at) ≡ up_to (suc k)
+  read_on : (k : ℕ) → k < 8 → has_lane p k ≡ true → Here s from (post_texts p so d (suc k)) → post_added (up_to k) (read_post s (up_to k).at) ≡ up_to (suc k)
   unfolding post_added
-  read_on_lem k h e w =
+  read_on k h e w =
       let role = role_of (has_lane so k) (has_lane d k) in
       let t : post_texts p so d (suc k) ≡ post_texts p so d k ++ post_text k (role_name role) =
       post_yes p so d k e ∙ ap (λ (u : List ℕ). post_texts p so d k ++ post_text k u) (role_text_lem so d k) in
@@ -132,12 +112,12 @@ module _ (s : List ℕ) (from p so d : ℕ) (fs : Roles p so) (fd : Roles p d) w
       longer : length (post_texts p so d (suc k)) ≡ length (post_texts p so d k) + length text
       longer = ap length (post_yes p so d k e) ∙ length-append (post_texts p so d k) text
 
-      begins : post_begins s at ≡ true
-      begins = post_begins_lem s at k (role_text so d k) h (post_here k e w)
+      begins : stands s at (bytes " (") ≡ true
+      begins = here_stands s (bytes " (") at (here_split s (bytes " (") (decimal k ++ bytes " " ++ role_text so d k ++ bytes ")") at (post_here k e w)).0
 
       go : (n : ℕ) → length s ≤ n + at → (m : ℕ) × (length s ≤ m + (up_to (suc k)).at) × (posts_read s (up_to k) n ≡ posts_read s (up_to (suc k)) m)
       go zero b = absurd (omega (arith, b, (post_here k e w).0))
-      go (suc n) b = (n, omega (arith, b, longer), rw begins (ap (λ (y : YardScan). posts_read s y n) (read_on_lem k h e w)))
+      go (suc n) b = (n, omega (arith, b, longer), rw begins (ap (λ (y : YardScan). posts_read s y n) (read_on k h e w)))
 
   -- up to lane k
   up_to_lem : (k : ℕ) → k ≤ 8 → Here s from (post_texts p so d k) → (n : ℕ) → length s ≤ n + from
@@ -159,19 +139,26 @@ module _ (s : List ℕ) (from p so d : ℕ) (fs : Roles p so) (fd : Roles p d) w
           (b.0, omega (arith, b.1, ap (λ (y : YardScan). y.at) q), b.2 ∙ ap (λ (y : YardScan). posts_read s y b.0) q)
 
   -- where no post begins, reading stops
-  stops : (y : YardScan) (n : ℕ) → post_begins s y.at ≡ false → posts_read s y n ≡ y
+  stops : (y : YardScan) (n : ℕ) → stands s y.at (bytes " (") ≡ false → posts_read s y n ≡ y
   unfolding posts_read
   stops y zero e = refl
   stops y (suc n) e = rw (e, and-false y.ok)
+
+  ends : (at : ℕ) → Here s at (bytes ")\n") → stands s at (bytes " (") ≡ false
+  ends at h = go (stands s at (bytes " (")) refl
+    where
+      go : (t : Bool) → stands s at (bytes " (") ≡ t → t ≡ false
+      go true e = let z = sym (here_head s (bytes "(") at 32 (stands_here s (bytes " (") at e)) ∙ here_head s (bytes "\n") at 41 h in absurd (omega (arith, z))
+      go false e = refl
 
   begin : reached from 0 0 0 true ≡ up_to 0
   unfolding post_texts
   begin = same_scan _ _ _ _ _ _ _ _ true true (omega arith) (sym (mod-one p)) (sym (mod-one so)) (sym (mod-one d)) refl
 
-  -- the posts, and no post after them
-  pub posts_complete : (n : ℕ) → p < 256 → so < 256 → d < 256 → Here s from (post_texts p so d 8) → post_begins s (from + length (post_texts p so d 8)) ≡ false
+  -- the posts and what ends the line
+  pub posts_complete : (n : ℕ) → p < 256 → so < 256 → d < 256 → Here s from (post_texts p so d 8) → Here s (from + length (post_texts p so d 8)) (bytes ")\n")
       → length s ≤ n + from → posts_read s (reached from 0 0 0 true) n ≡ reached (from + length (post_texts p so d 8)) p so d true
   posts_complete n lp ls ld w v l =
       let b = up_to_lem 8 (omega arith) w n l in
       let e = same_scan _ _ _ _ _ _ _ _ true true refl (low_all p lp) (low_all so ls) (low_all d ld) refl in
-      ap (λ (y : YardScan). posts_read s y n) begin ∙ b.2 ∙ stops (up_to 8) b.0 v ∙ e
+      ap (λ (y : YardScan). posts_read s y n) begin ∙ b.2 ∙ stops (up_to 8) b.0 (ends (up_to 8).at v) ∙ e

@@ -8,12 +8,13 @@ use lib.Bits.{or_lt}
 use lib.Dec.{ltb}
 use lib.ListN.{length, length-append}
 use borrow.Author.Tests.{ltb-true}
+use Rattle.text.specs.Bytes.{bytes}
 use Rattle.scan.specs.declared.Scan.{Scan}
 use Rattle.lines.specs.declared.YardScan.{YardScan}
-use Rattle.lines.specs.Forms.{read_post, bit_of, post_added, post_begins, posts_read}
+use Rattle.scan.specs.Scan.{stands}
+use Rattle.lines.specs.Forms.{read_post, bit_of, post_added, posts_read}
 use Rattle.written.specs.Written.{post_texts, Roles}
 use Rattle.scan.proofs.Laws.{both}
-use Rattle.scan.proofs.TextLaws.{ways}
 use Rattle.scan.proofs.Here.{Here, here_join}
 use Rattle.scan.proofs.Number.{done}
 use Rattle.written.proofs.Posts.{role_name, post_text, post_sound}
@@ -85,23 +86,9 @@ module _ (s : List ℕ) (from : ℕ) where
   unfolding posts_read
   posts_sound y zero f = f
   posts_sound y (suc n) f =
-      go (y.ok && post_begins s y.at) refl (λ e. posts_sound (post_added y (read_post s y.at)) n (read_more y f (both y.ok _ e).0))
+      go (y.ok && stands s y.at (bytes " (")) refl (λ e. posts_sound (post_added y (read_post s y.at)) n (read_more y f (both y.ok _ e).0))
     where
-      go : (t : Bool) → (y.ok && post_begins s y.at) ≡ t → ((y.ok && post_begins s y.at) ≡ true → ReadPosts (posts_read s (post_added y (read_post s y.at)) n))
+      go : (t : Bool) → (y.ok && stands s y.at (bytes " (")) ≡ t → ((y.ok && stands s y.at (bytes " (")) ≡ true → ReadPosts (posts_read s (post_added y (read_post s y.at)) n))
           → ReadPosts (cond t (posts_read s (post_added y (read_post s y.at)) n) y)
       go true e g = g e
       go false e g = f
-
--- they leave the entries as they were
-pub posts_entries : (s : List ℕ) (y : YardScan) (n : ℕ) → (posts_read s y n).entries ≡ y.entries
-unfolding posts_read post_added
-posts_entries s y zero = refl
-posts_entries s y (suc n) =
-    ways (λ (z : YardScan). z.entries ≡ y.entries) (y.ok && post_begins s y.at) _ y (λ e. posts_entries s (post_added y (read_post s y.at)) n) refl
-
--- a scan that failed stays so
-pub posts_ok_lem : (s : List ℕ) (y : YardScan) (n : ℕ) → (posts_read s y n).ok ≡ true → y.ok ≡ true
-unfolding posts_read
-posts_ok_lem s y zero = λ k. k
-posts_ok_lem s y (suc n) =
-    ways (λ (z : YardScan). z.ok ≡ true → y.ok ≡ true) (y.ok && post_begins s y.at) _ y (λ e k. (both y.ok _ e).0) (λ k. k)

@@ -1,42 +1,41 @@
 -- Whole scripts, written and read: the statement. Assumes nothing.
-use Rattle.std.specs.Prelude.{ℕ, ◌+◌, ◌≤◌, ◌≡◌, Bool, List, [], ◌∷◌, ◌++◌, length}
-use Rattle.setup.specs.declared.Setup.{Setup}
-use Rattle.lines.specs.declared.Asked.{Asked}
+use Rattle.std.specs.Prelude.{ℕ, ◌+◌, ◌≤◌, ◌≡◌, List, [], ◌∷◌, ◌++◌, length}
 use Rattle.lines.specs.declared.Line.{Line}
-use Rattle.lines.specs.Lines.{asks, opens, first_line, later_lines, judged}
-use Rattle.written.specs.Written.{yard_text, RightFirst, step_text, RightStep}
+use Rattle.lines.specs.declared.Line.TheVariants.{Yard, Order, Hear, Beacon, Roll, Refused}
+use Rattle.lines.specs.Lines.{lines_of, judged}
+use Rattle.written.specs.Written.{line_text, Right}
 
--- the texts of steps, one after another
-unfoldable pub step_texts : List Asked → List ℕ
-step_texts [] = []
-step_texts (step ∷ steps) = step_text step ++ step_texts steps
+-- the texts of lines, one after another
+unfoldable pub text_of : List Line → List ℕ
+text_of [] = []
+text_of (l ∷ ls) = line_text l ++ text_of ls
 
--- the text of a script
-abbrev pub text_of : Bool → Setup → List Asked → List ℕ
-text_of shown y steps = yard_text shown y ++ step_texts steps
+-- a line, and where the line after it begins
+abbrev pub followed_at : ℕ → Line → Line
+followed_at next (Yard posts sources dests before) = Yard posts sources dests next
+followed_at next (Order lane word before) = Order lane word next
+followed_at next (Hear lane frame before) = Hear lane frame next
+followed_at next (Beacon lane before) = Beacon lane next
+followed_at next (Roll before) = Roll next
+followed_at next (Refused number) = Refused number
 
--- the lines of steps, one after another from a place on
-unfoldable pub laid : ℕ → List Asked → List Line
+-- lines one after another from a place on, each with the place where its text ends
+unfoldable pub laid : ℕ → List Line → List Line
 laid at [] = []
-laid at (step ∷ steps) = asks step (at + length (step_text step)) ∷ laid (at + length (step_text step)) steps
+laid at (l ∷ ls) = followed_at (at + length (line_text l)) l ∷ laid (at + length (line_text l)) ls
 
-abbrev pub RightSteps : List Asked → Type 0
+-- steps, each as it may stand on a line after the first; which place that is does not matter
+abbrev pub RightSteps : List Line → Type 0
 RightSteps [] = Unit {0}
-RightSteps (step ∷ steps) = RightStep step × RightSteps steps
-
--- a script reads as a yard and steps: line 1 and those after it, each where its text stands
-abbrev pub ReadsAs : List ℕ → Bool → Setup → List Asked → Type 0
-ReadsAs s shown y steps =
-    (first_line s ≡ opens y (length (yard_text shown y))) × (later_lines s ≡ laid (length (yard_text shown y)) steps)
+RightSteps (l ∷ ls) = Right 1 l × RightSteps ls
 
 pub record WholeScripts : Type 0 where
-  -- a yard and steps, each as it may be written, one after another within 48,000 bytes: accepted, and read as these
-  pub reads : (shown : Bool) (y : Setup) (steps : List Asked) → RightFirst shown y → RightSteps steps → length (text_of shown y steps) ≤ 48000
-      → ((judged (text_of shown y steps)).number ≡ 0) × ReadsAs (text_of shown y steps) shown y steps
-  -- a script that is not refused is such a text, and reads as it
+  -- a yard line and steps, each as it may stand, written one after another within 48,000 bytes: accepted, and read as these lines in turn
+  pub reads : (yard : Line) (steps : List Line) → Right 0 yard → RightSteps steps → length (text_of (yard ∷ steps)) ≤ 48000
+      → ((judged (text_of (yard ∷ steps))).number ≡ 0) × (lines_of (text_of (yard ∷ steps)) ≡ laid 0 (yard ∷ steps))
+  -- a script that is not refused is such a text: that of the lines read
   pub accepts : (s : List ℕ) → (judged s).number ≡ 0
-      → (shown : Bool) × (y : Setup) × (steps : List Asked) × RightFirst shown y × RightSteps steps × (length s ≤ 48000)
-      × (text_of shown y steps ≡ s) × ReadsAs s shown y steps
-  -- a longer script has the same line 1, and the lines after it begin with those of its beginning
-  pub longer : (s more : List ℕ) → (judged s).number ≡ 0
-      → (first_line (s ++ more) ≡ first_line s) × (rest : List Line) × (later_lines (s ++ more) ≡ later_lines s ++ rest)
+      → (yard : Line) × (steps : List Line) × Right 0 yard × RightSteps steps × (length s ≤ 48000)
+      × (text_of (yard ∷ steps) ≡ s) × (lines_of s ≡ yard ∷ steps) × (laid 0 (yard ∷ steps) ≡ yard ∷ steps)
+  -- the lines of a longer script begin with those of its beginning
+  pub longer : (s more : List ℕ) → (judged s).number ≡ 0 → (rest : List Line) × (lines_of (s ++ more) ≡ lines_of s ++ rest)

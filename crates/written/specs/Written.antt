@@ -1,14 +1,10 @@
--- A script's lines as they are written: document 01, "Script and printout", and document 02, K3. Assumes nothing.
-use Rattle.std.specs.Prelude.{ℕ, zero, suc, ◌<◌, ◌≤◌, ◌≡◌, Bool, true, false, cond, List, [], ◌++◌}
+-- A script's lines as they are written: document 01, "Script and printout". Assumes nothing.
+use Rattle.std.specs.Prelude.{ℕ, zero, suc, ◌<◌, ◌≡◌, true, cond, List, [], ◌++◌}
 use Rattle.text.specs.Bytes.{bytes}
 use Rattle.text.specs.Decimal.{decimal}
 use Rattle.cells.specs.Sets.{has_lane}
-use Rattle.setup.specs.declared.Setup.{Setup}
-use Rattle.setup.specs.Setups.{EightBits}
-use Rattle.lines.specs.declared.Asked.{Asked}
-use Rattle.lines.specs.declared.Asked.TheVariants.{Order, Hear, Beacon, Roll, Nothing}
-
--- ---- line 1
+use Rattle.lines.specs.declared.Line.{Line}
+use Rattle.lines.specs.declared.Line.TheVariants.{Yard, Order, Hear, Beacon, Roll, Refused}
 
 -- "A post is source, dest, both or relay (neither)."
 unfoldable pub role_text : ℕ → ℕ → ℕ → List ℕ
@@ -24,46 +20,25 @@ post_texts posts sources dests (suc lane) =
     post_texts posts sources dests lane
     ++ cond (has_lane posts lane) (bytes " (" ++ decimal lane ++ bytes " " ++ role_text sources dests lane ++ bytes ")") []
 
--- "an optional last item `(entries E)`"
-abbrev pub entries_text : ℕ → List ℕ
-entries_text entries = bytes " (entries " ++ decimal entries ++ bytes ")"
-
--- line 1 with its line feed; `shown`: with its last item
-unfoldable pub yard_text : Bool → Setup → List ℕ
-yard_text shown y =
-    bytes "(yard" ++ post_texts y.posts y.sources y.dests 8 ++ cond shown (entries_text y.entries) [] ++ bytes ")\n"
+-- a line with its line feed
+unfoldable pub line_text : Line → List ℕ
+line_text (Yard posts sources dests next) = bytes "(yard" ++ post_texts posts sources dests 8 ++ bytes ")\n"
+line_text (Order lane word next) = bytes "(order " ++ decimal lane ++ bytes " " ++ decimal word ++ bytes ")\n"
+line_text (Hear lane frame next) = bytes "(hear " ++ decimal lane ++ bytes " " ++ decimal frame ++ bytes ")\n"
+line_text (Beacon lane next) = bytes "(beacon " ++ decimal lane ++ bytes ")\n"
+line_text (Roll next) = bytes "(roll)\n"
+line_text (Refused number) = []
 
 -- no role at a lane without a post
 abbrev pub Roles : ℕ → ℕ → Type 0
 Roles posts roles = (lane : ℕ) → has_lane roles lane ≡ true → has_lane posts lane ≡ true
 
--- what line 1 may say of a yard: a post at least, "E from 1 to 8"
-pub record RightSetup (y : Setup) : Type 0 where
-  pub some : 0 < y.posts
-  pub sets : EightBits y
-  pub sources : Roles y.posts y.sources
-  pub dests : Roles y.posts y.dests
-  pub least : 1 ≤ y.entries
-  pub most : y.entries ≤ 8
-
--- "with 8 when it is missing": only then may the last item be left out
-abbrev pub RightFirst : Bool → Setup → Type 0
-RightFirst shown y = RightSetup y × (shown ≡ false → y.entries ≡ 8)
-
--- ---- the lines after it
-
--- the line of a step with its line feed
-unfoldable pub step_text : Asked → List ℕ
-step_text (Order lane word) = bytes "(order " ++ decimal lane ++ bytes " " ++ decimal word ++ bytes ")\n"
-step_text (Hear lane frame) = bytes "(hear " ++ decimal lane ++ bytes " " ++ decimal frame ++ bytes ")\n"
-step_text (Beacon lane) = bytes "(beacon " ++ decimal lane ++ bytes ")\n"
-step_text Roll = bytes "(roll)\n"
-step_text Nothing = []
-
--- a step with its numbers in range
-abbrev pub RightStep : Asked → Type 0
-RightStep (Order lane word) = (lane < 8) × (word < 65536)
-RightStep (Hear lane frame) = (lane < 8) × (frame < 100000)
-RightStep (Beacon lane) = lane < 8
-RightStep Roll = Unit {0}
-RightStep Nothing = ⊥
+-- a line that may stand at a place: the yard on line 1, with a post at least; a step on a later line, its numbers in range
+abbrev pub Right : ℕ → Line → Type 0
+Right at (Yard posts sources dests next) =
+    (at ≡ 0) × (0 < posts) × (posts < 256) × (sources < 256) × (dests < 256) × Roles posts sources × Roles posts dests
+Right at (Order lane word next) = (0 < at) × (lane < 8) × (word < 65536)
+Right at (Hear lane frame next) = (0 < at) × (lane < 8) × (frame < 100000)
+Right at (Beacon lane next) = (0 < at) × (lane < 8)
+Right at (Roll next) = 0 < at
+Right at (Refused number) = ⊥

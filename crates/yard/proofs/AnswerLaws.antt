@@ -82,16 +82,16 @@ hear_tells h air lane k r e = (e, rw e (hear_values h air lane k))
 
 -- ---- beacon
 
-sent_number : (p : Post) → not_in_yard p.setup.posts p.lane ≡ false → beacon_number (beacon_step p).answer ≡ 0
+sent_number : (p : Post) → not_in_yard p.posts p.lane ≡ false → beacon_number (beacon_step p).answer ≡ 0
 unfolding beacon_step
 sent_number p e = rw e
 
 beacon_value : (h : Held) (air : List ℕ) (lane : ℕ) → beacon_number (beacons_in h air lane).answer ≡ beacon_refusal_in h air lane
 unfolding beacons_in beacon_refusal_in
 beacon_value (other cells) air lane = refl
-beacon_value (whole y knowns) air lane = go (ltb 7 lane) refl (bad_air air) refl (not_in_yard (post_at y lane).setup.posts (post_at y lane).lane) refl (spent (beacons_at y lane)) refl
+beacon_value (whole y knowns) air lane = go (ltb 7 lane) refl (bad_air air) refl (not_in_yard (post_at y lane).posts (post_at y lane).lane) refl (spent (beacons_at y lane)) refl
   where
-    go : (a : Bool) → ltb 7 lane ≡ a → (b : Bool) → bad_air air ≡ b → (c : Bool) → not_in_yard (post_at y lane).setup.posts (post_at y lane).lane ≡ c
+    go : (a : Bool) → ltb 7 lane ≡ a → (b : Bool) → bad_air air ≡ b → (c : Bool) → not_in_yard (post_at y lane).posts (post_at y lane).lane ≡ c
         → (d : Bool) → spent (beacons_at y lane) ≡ d
         → beacon_number (beacons_in (whole y knowns) air lane).answer ≡ beacon_refusal_in (whole y knowns) air lane
     go true e b q c r d t = rw e

@@ -29,7 +29,7 @@ over_7 (other cells) air lane l = rw (lt-ltb 7 lane l)
 pub beacon_over_7 : (s air : List ℕ) (lane : ℕ) → 8 ≤ lane → after (beaconing.TheVariants.Refused 4) s air ≡ beacons_in (held_in s) air lane
 beacon_over_7 s air lane l = over_7 (held_in s) air lane l
 
-pub beacon_short : (s air : List ℕ) (lane : ℕ) → lane < 8 → (length s ≡ 4501 → ⊥) → after (beaconing.TheVariants.Refused 12) s air ≡ beacons_in (held_in s) air lane
+pub beacon_short : (s air : List ℕ) (lane : ℕ) → lane < 8 → (length s ≡ 4483 → ⊥) → after (beaconing.TheVariants.Refused 12) s air ≡ beacons_in (held_in s) air lane
 unfolding beacons_in
 beacon_short s air lane l h = rw (held_other s h, le-ltb 7 lane (omega arith))
 
@@ -48,13 +48,13 @@ unfolding beacons_in
 runs y ks air exit lane n frames d l e z ed ef ex = rw (le-ltb 7 lane (omega arith), ← e, z, ef, ex, ed)
 
 -- on a state, whose row is lent
-pub beacon_stopped : (s air : List ℕ) (lane sent n : ℕ) → lane < 8 → length s ≡ 4501 → sent ≡ get_or (part s 3 8) lane 0
+pub beacon_stopped : (s air : List ℕ) (lane sent n : ℕ) → lane < 8 → length s ≡ 4483 → sent ≡ get_or (part s 3 8) lane 0
     → n ≡ stops_beacon air (post_in (lent_row s lane)) sent → (n ≡ 0 → ⊥) → after (beaconing.TheVariants.Refused n) s air ≡ beacons_in (held_in s) air lane
 beacon_stopped s air lane sent n small long eb e h =
     let j : n ≡ stops_beacon air (post_in (row_of s lane)) (get_or (part s 3 8) lane 0) = rw (lent_is s lane, eb) at e in
     rw (held_whole s long) (stopped (yard_in s) (knowns_in s) air lane n small (rw (at_yard s lane small, beacons_in_lem s) j) h)
 
-pub beacon_runs : (s s' t air exit : List ℕ) (lane sent n : ℕ) (d : Beaconed) → lane < 8 → length s ≡ 4501 → sent ≡ get_or (part s 3 8) lane 0
+pub beacon_runs : (s s' t air exit : List ℕ) (lane sent n : ℕ) (d : Beaconed) → lane < 8 → length s ≡ 4483 → sent ≡ get_or (part s 3 8) lane 0
     → n ≡ stops_beacon air (post_in (lent_row s lane)) sent → n ≡ 0 → d ≡ beacon_step (post_in (lent_row s lane))
     → s' ≡ put_in s 3 8 lane (sent + 1) → Sends s' t air exit d.frame
     → after d.answer t exit ≡ beacons_in (held_in s) air lane
@@ -63,7 +63,7 @@ beacon_runs s s' t air exit lane sent n d small long eb en z ed et es =
     let b : sent ≡ beacons_at (yard_in s) lane = rw (beacons_in_lem s) eb in
     let fr : get_or s' 2 0 ≡ (yard_in s).frames = rw et (cell_apart s 3 8 lane (sent + 1) 2 refl) ∙ sym (frames_in_lem s) in
     let frames : ℕ = frames_after air (yard_in s).frames d.frame in
-    let long' : length s' ≡ 4501 = rw et (cell_long s 3 8 lane (sent + 1) (omega arith) ∙ long) in
+    let long' : length s' ≡ 4483 = rw et (cell_long s 3 8 lane (sent + 1) (omega arith) ∙ long) in
     let h : held_in t ≡ whole (with_beacons (yard_in s) (frames_after air (yard_in s).frames d.frame) (set (yard_in s).beacons lane (beacons_at (yard_in s) lane + 1))) (knowns_in s)
     = rw (es.0, fr) (frames_held s' frames long' ∙ rw (et, beacons_yard s lane (sent + 1), cell_knowns s 3 8 lane (sent + 1) (omega arith), b))
     in

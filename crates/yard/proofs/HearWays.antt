@@ -29,7 +29,7 @@ over_7 (other cells) air lane k l = rw (lt-ltb 7 lane l)
 pub hear_over_7 : (s air : List ℕ) (lane k : ℕ) → 8 ≤ lane → after (hearings.TheVariants.Refused 4) s air ≡ hears_in (held_in s) air lane k
 hear_over_7 s air lane k l = over_7 (held_in s) air lane k l
 
-pub hear_short : (s air : List ℕ) (lane k : ℕ) → lane < 8 → (length s ≡ 4501 → ⊥)
+pub hear_short : (s air : List ℕ) (lane k : ℕ) → lane < 8 → (length s ≡ 4483 → ⊥)
     → after (hearings.TheVariants.Refused 12) s air ≡ hears_in (held_in s) air lane k
 unfolding hears_in
 hear_short s air lane k l h = rw (held_other s h, le-ltb 7 lane (omega arith))
@@ -49,18 +49,18 @@ unfolding hears_in
 runs y ks air exit lane k n frames d l e z ed ef ex = rw (le-ltb 7 lane (omega arith), ← e, z, ef, ex, ed)
 
 -- on a state, whose row is lent
-pub hear_stopped : (s air : List ℕ) (lane k frames n : ℕ) → lane < 8 → length s ≡ 4501 → frames ≡ get_or s 2 0
+pub hear_stopped : (s air : List ℕ) (lane k frames n : ℕ) → lane < 8 → length s ≡ 4483 → frames ≡ get_or s 2 0
     → n ≡ stops_hearing air (post_in (lent_row s lane)) frames k → (n ≡ 0 → ⊥) → after (hearings.TheVariants.Refused n) s air ≡ hears_in (held_in s) air lane k
 hear_stopped s air lane k frames n small long ef e h =
     let j : n ≡ stops_hearing air (post_in (row_of s lane)) (get_or s 2 0) k = rw (lent_is s lane, ef) at e in
     rw (held_whole s long) (stopped (yard_in s) (knowns_in s) air lane k n small (rw (at_yard s lane small, frames_in_lem s) j) h)
 
-hear_row : (s row t air exit : List ℕ) (lane k n : ℕ) (f g : Frame) (a : hearings.HearAnswer) → lane < 8 → length s ≡ 4501 → length row ≡ 545
+hear_row : (s row t air exit : List ℕ) (lane k n : ℕ) (f g : Frame) (a : hearings.HearAnswer) → lane < 8 → length s ≡ 4483 → length row ≡ 543
     → n ≡ stops_hearing air (post_in (row_of s lane)) (get_or s 2 0) k → n ≡ 0 → f ≡ frame_at air k
-    → stepped a row g ≡ hears_by (known_in (row_of s lane)) (post_in (row_of s lane)) f → Sends (put_part s (141 + 545 * lane) 545 row) t air exit g
+    → stepped a row g ≡ hears_by (known_in (row_of s lane)) (post_in (row_of s lane)) f → Sends (put_part s (139 + 543 * lane) 543 row) t air exit g
     → after a t exit ≡ hears_in (held_in s) air lane k
 hear_row s row t air exit lane k n f g a small long size en z ef ed es =
-    let s' : List ℕ = put_part s (141 + 545 * lane) 545 row in
+    let s' : List ℕ = put_part s (139 + 543 * lane) 543 row in
     let at = at_yard s lane small in
     let ka = at_knowns s lane small in
     let fr : get_or s' 2 0 ≡ (yard_in s).frames = front_cell s lane row long small size 2 (omega arith) ∙ sym (frames_in_lem s) in
@@ -70,7 +70,7 @@ hear_row s row t air exit lane k n f g a small long size en z ef ed es =
     in
     rw (h, held_whole s long) (runs (yard_in s) (knowns_in s) air exit lane k n frames (stepped a row g) small (rw (at, frames_in_lem s) en) z (rw (ka, at, ← ef) ed) refl (rw (← fr) es.1))
 
-pub hear_runs : (s row t air exit : List ℕ) (lane k frames n : ℕ) (f g : Frame) (a : hearings.HearAnswer) → lane < 8 → length s ≡ 4501
+pub hear_runs : (s row t air exit : List ℕ) (lane k frames n : ℕ) (f g : Frame) (a : hearings.HearAnswer) → lane < 8 → length s ≡ 4483
     → length row ≡ length (lent_row s lane) → frames ≡ get_or s 2 0 → n ≡ stops_hearing air (post_in (lent_row s lane)) frames k → n ≡ 0
     → (n ≡ 0 → f ≡ frame_at air k) → stepped a row g ≡ hears_by (known_in (lent_row s lane)) (post_in (lent_row s lane)) f
     → Sends (row_back s lane row) t air exit g

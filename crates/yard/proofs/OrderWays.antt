@@ -47,12 +47,12 @@ large (other cells) air lane word l w = rw (le-ltb 7 lane (omega arith), lt-ltb 
 pub order_large : (s air : List ℕ) (lane word : ℕ) → lane < 8 → 65535 < word → after (orders.TheVariants.Refused 5) s air ≡ orders_in (held_in s) air lane word
 order_large s air lane word l w = large (held_in s) air lane word l w
 
-pub order_short : (s air : List ℕ) (lane word : ℕ) → lane < 8 → word ≤ 65535 → (length s ≡ 4501 → ⊥)
+pub order_short : (s air : List ℕ) (lane word : ℕ) → lane < 8 → word ≤ 65535 → (length s ≡ 4483 → ⊥)
     → after (orders.TheVariants.Refused 12) s air ≡ orders_in (held_in s) air lane word
 unfolding orders_in
 order_short s air lane word l w h = rw (held_other s h, le-ltb 7 lane (omega arith), le-ltb 65535 word w)
 
-pub order_no_air : (s air : List ℕ) (lane word : ℕ) → lane < 8 → word ≤ 65535 → length s ≡ 4501 → (length air ≡ 65536 → ⊥)
+pub order_no_air : (s air : List ℕ) (lane word : ℕ) → lane < 8 → word ≤ 65535 → length s ≡ 4483 → (length air ≡ 65536 → ⊥)
     → after (orders.TheVariants.Refused 13) s air ≡ orders_in (held_in s) air lane word
 unfolding orders_in
 order_no_air s air lane word l w h a = rw (held_whole s h, le-ltb 7 lane (omega arith), le-ltb 65535 word w, ne_eqb (length air) 65536 a)
@@ -95,7 +95,7 @@ same_noted known first air p word lane frames d e = go (eqb (order_refusal p) 0)
     go false q = let z : d.frame.kind ≡ 0 = rw e (same_serial known p word false q) in rw (none_counted air frames d.frame z)
 
 -- on a state
-noted_held : (s t : List ℕ) (lane serial before : ℕ) → length s ≡ 4501 → Noted s t lane serial before
+noted_held : (s t : List ℕ) (lane serial before : ℕ) → length s ≡ 4483 → Noted s t lane serial before
     → held_in t ≡ whole (with_first (yard_in s) (noted (yard_in s).first lane serial before (yard_in s).frames)) (knowns_in s)
 unfolding yard_in
 noted_held s t lane serial before h e = go (ltb before (get_or s 2 0)) refl
@@ -105,20 +105,20 @@ noted_held s t lane serial before h e = go (ltb before (get_or s 2 0)) refl
     go true q = let w : t ≡ put_in s 11 128 (order_place lane serial) before = rw q at e in rw (frames_in_lem s, q, w) (first_held s (order_place lane serial) before h)
     go false q = let w : t ≡ s = rw q at e in rw (frames_in_lem s, q, w) (held_whole s h)
 
-order_row : (s row t m air exit : List ℕ) (lane word frames : ℕ) (g : Frame) (a : orders.OrderAnswer) → lane < 8 → word ≤ 65535 → length s ≡ 4501
-    → length air ≡ 65536 → length row ≡ 545 → frames ≡ (yard_in s).frames → stepped a row g ≡ orders_by (known_in (row_of s lane)) (post_in (row_of s lane)) word
-    → Sends (put_part s (141 + 545 * lane) 545 row) t air exit g → Noted t m lane g.serial.0 frames
+order_row : (s row t m air exit : List ℕ) (lane word frames : ℕ) (g : Frame) (a : orders.OrderAnswer) → lane < 8 → word ≤ 65535 → length s ≡ 4483
+    → length air ≡ 65536 → length row ≡ 543 → frames ≡ (yard_in s).frames → stepped a row g ≡ orders_by (known_in (row_of s lane)) (post_in (row_of s lane)) word
+    → Sends (put_part s (139 + 543 * lane) 543 row) t air exit g → Noted t m lane g.serial.0 frames
     → after a m exit ≡ orders_in (held_in s) air lane word
 order_row s row t m air exit lane word frames g a small w long la size ef ed es em =
-    let s' : List ℕ = put_part s (141 + 545 * lane) 545 row in
+    let s' : List ℕ = put_part s (139 + 543 * lane) 543 row in
     let y : Yard = yard_in s in
     let at = at_yard s lane small in
     let ka = at_knowns s lane small in
     let after : ℕ = frames_after air (yard_in s).frames g in
-    let ls : length s' ≡ 4501 = row_long s lane row long small size in
+    let ls : length s' ≡ 4483 = row_long s lane row long small size in
     let fr : get_or s' 2 0 ≡ (yard_in s).frames = front_cell s lane row long small size 2 (omega arith) ∙ sym (frames_in_lem s) in
     let et : t ≡ set s' 2 after = rw fr at es.0 in
-    let lt : length t ≡ 4501 = rw et (length-set s' 2 after ∙ ls) in
+    let lt : length t ≡ 4483 = rw et (length-set s' 2 after ∙ ls) in
     let yt : yard_in t ≡ with_post (yard_in s) lane (post_in row) after = rw (et, frames_yard s' after ls, row_yard s lane row long small size) in
     let kt : knowns_in t ≡ set (knowns_in s) lane (known_in row) = rw (et, frames_knowns s' after ls, row_knowns s lane row long small size) in
     let n = same_noted (known_in (row_of s lane)) (yard_in s).first air (post_in (row_of s lane)) word lane (yard_in s).frames (stepped a row g) ed in
@@ -128,7 +128,7 @@ order_row s row t m air exit lane word frames g a small w long la size ef ed es 
     rw (h, held_whole s long) (runs (yard_in s) (knowns_in s) air exit lane word after (stepped a row g) small w la (rw (ka, at) ed) refl (rw (← fr) es.1))
 
 -- whose row is lent
-pub order_runs : (s row t m air exit : List ℕ) (lane word frames : ℕ) (g : Frame) (a : orders.OrderAnswer) → lane < 8 → word ≤ 65535 → length s ≡ 4501
+pub order_runs : (s row t m air exit : List ℕ) (lane word frames : ℕ) (g : Frame) (a : orders.OrderAnswer) → lane < 8 → word ≤ 65535 → length s ≡ 4483
     → length air ≡ 65536 → length row ≡ length (lent_row s lane) → frames ≡ get_or s 2 0
     → stepped a row g ≡ orders_by (known_in (lent_row s lane)) (post_in (lent_row s lane)) word
     → Sends (row_back s lane row) t air exit g → Noted t m lane g.serial.0 frames

@@ -27,12 +27,12 @@ use Rattle.yard.specs.Singles.{frames_after, absent_refusal, stops_hearing, fram
 -- ---- the frame that a post is to hear
 
 -- 21 comes before 25, and after 13
-absent_is : (air : List ℕ) (p : Post) (frames k n r : ℕ) → n ≡ stretch_refusal air frames k → r ≡ cond (eqb n 25 && not_in_yard p.setup.posts p.lane) 21 n
-    → r ≡ absent_refusal air p.lane p.setup.posts frames k
+absent_is : (air : List ℕ) (p : Post) (frames k n r : ℕ) → n ≡ stretch_refusal air frames k → r ≡ cond (eqb n 25 && not_in_yard p.posts p.lane) 21 n
+    → r ≡ absent_refusal air p.lane p.posts frames k
 unfolding stretch_refusal
 absent_is air p frames k n r en er = go (bad_air air) refl (not_on_air frames k) refl
   where
-    go : (a : Bool) → bad_air air ≡ a → (o : Bool) → not_on_air frames k ≡ o → r ≡ absent_refusal air p.lane p.setup.posts frames k
+    go : (a : Bool) → bad_air air ≡ a → (o : Bool) → not_on_air frames k ≡ o → r ≡ absent_refusal air p.lane p.posts frames k
     go true qa o qo = rw qa (let z : n ≡ 13 = rw qa at en in rw z at er)
     go false qa true qo = rw (qa, qo) (let z : n ≡ 25 = rw (qa, qo) at en in rw z at er)
     go false qa false qo = rw (qa, qo) (let z : n ≡ 0 = rw (qa, qo) at en in rw z at er)
@@ -41,13 +41,13 @@ absent_is air p frames k n r en er = go (bad_air air) refl (not_on_air frames k)
 abbrev pub Found : List ℕ → Post → ℕ → ℕ → ℕ → Frame → Type 0
 Found air p frames k n f = (n ≡ stops_hearing air p frames k) × (n ≡ 0 → f ≡ frame_at air k)
 
-not_there : (air : List ℕ) (p : Post) (frames k n : ℕ) (f : Frame) → n ≡ absent_refusal air p.lane p.setup.posts frames k → (n ≡ 0 → ⊥)
+not_there : (air : List ℕ) (p : Post) (frames k n : ℕ) (f : Frame) → n ≡ absent_refusal air p.lane p.posts frames k → (n ≡ 0 → ⊥)
     → Found air p frames k n f
 not_there air p frames k n f e h = (rw (← e, ne_eqb n 0 h), λ z. absurd (h z))
 
 -- a frame that nothing says is absent is on the air
-on_air_lem : (air : List ℕ) (p : Post) (frames k : ℕ) → absent_refusal air p.lane p.setup.posts frames k ≡ 0 → (bad_air air ≡ false) × (not_on_air frames k ≡ false)
-on_air_lem air p frames k z = let a = passed (bad_air air) 13 (cond (not_on_air frames k) (cond (not_in_yard p.setup.posts p.lane) 21 25) 0) (omega arith) z in (a.0, go (not_on_air frames k) (not_in_yard p.setup.posts p.lane) a.1)
+on_air_lem : (air : List ℕ) (p : Post) (frames k : ℕ) → absent_refusal air p.lane p.posts frames k ≡ 0 → (bad_air air ≡ false) × (not_on_air frames k ≡ false)
+on_air_lem air p frames k z = let a = passed (bad_air air) 13 (cond (not_on_air frames k) (cond (not_in_yard p.posts p.lane) 21 25) 0) (omega arith) z in (a.0, go (not_on_air frames k) (not_in_yard p.posts p.lane) a.1)
   where
     go : (o s : Bool) → ◌≡◌ {A = ℕ} (cond o (cond s 21 25) 0) 0 → o ≡ false
     go true true e = absurd (omega arith)
@@ -59,7 +59,7 @@ stretch_there : (air : List ℕ) (frames k : ℕ) → bad_air air ≡ false → 
 unfolding stretch_of stretch_refusal
 stretch_there air frames k a o = rw (a, o)
 
-there : (air : List ℕ) (p : Post) (frames k : ℕ) (got : FrameRead) → absent_refusal air p.lane p.setup.posts frames k ≡ 0
+there : (air : List ℕ) (p : Post) (frames k : ℕ) (got : FrameRead) → absent_refusal air p.lane p.posts frames k ≡ 0
     → got ≡ read_of (stretch_of air frames k) → Found air p frames k got.refusal got.frame
 unfolding read_of
 there air p frames k got z eg =
@@ -77,29 +77,29 @@ absent_none air lane posts frames k z = go (bad_air air) (not_on_air frames k) r
     go false true qa qo e = absurd (omega (arith, rw (qa, qo) at e))
     go false false qa qo e = rw (qa, qo)
 
-none_absent : (air : List ℕ) (p : Post) (frames k : ℕ) → absent_refusal air p.lane p.setup.posts frames k ≡ 0 → stretch_refusal air frames k ≡ 0
+none_absent : (air : List ℕ) (p : Post) (frames k : ℕ) → absent_refusal air p.lane p.posts frames k ≡ 0 → stretch_refusal air frames k ≡ 0
 unfolding stretch_refusal
 none_absent air p frames k z = let o = on_air_lem air p frames k z in rw (o.0, o.1)
 
 pub found_there : (air part : List ℕ) (p : Post) (frames k n : ℕ) (got : FrameRead) → n ≡ stretch_refusal air frames k → n ≡ 0 → part ≡ stretch_of air frames k
     → got ≡ read_of part → Found air p frames k got.refusal got.frame
-found_there air part p frames k n got en z e eg = there air p frames k got (absent_none air p.lane p.setup.posts frames k (sym en ∙ z)) (rw e at eg)
+found_there air part p frames k n got en z e eg = there air p frames k got (absent_none air p.lane p.posts frames k (sym en ∙ z)) (rw e at eg)
 
 pub found_nothing : (air : List ℕ) (p : Post) (frames k n r : ℕ) (f : Frame) → n ≡ stretch_refusal air frames k → (n ≡ 0 → ⊥)
-    → r ≡ cond (eqb n 25 && not_in_yard p.setup.posts p.lane) 21 n → Found air p frames k r f
+    → r ≡ cond (eqb n 25 && not_in_yard p.posts p.lane) 21 n → Found air p frames k r f
 found_nothing air p frames k n r f en h er =
     let e = absent_is air p frames k n r en er in
     not_there air p frames k r f e (λ q. h (en ∙ none_absent air p frames k (sym e ∙ q)))
 
 -- where nothing stops it the air has its length
 pub air_there : (air : List ℕ) (p : Post) (frames k : ℕ) → stops_hearing air p frames k ≡ 0 → length air ≡ 65536
-air_there air p frames k z = go (eqb (absent_refusal air p.lane p.setup.posts frames k) 0) refl
+air_there air p frames k z = go (eqb (absent_refusal air p.lane p.posts frames k) 0) refl
   where
-    go : (b : Bool) → eqb (absent_refusal air p.lane p.setup.posts frames k) 0 ≡ b → length air ≡ 65536
+    go : (b : Bool) → eqb (absent_refusal air p.lane p.posts frames k) 0 ≡ b → length air ≡ 65536
     go true q = eqb-true (length air) 65536 (not-false _ (on_air_lem air p frames k (eqb-true _ 0 q)).0)
     go false q =
-        let y : absent_refusal air p.lane p.setup.posts frames k ≡ 0 = rw q at z in
-        absurd (eqb-false (absent_refusal air p.lane p.setup.posts frames k) 0 q y)
+        let y : absent_refusal air p.lane p.posts frames k ≡ 0 = rw q at z in
+        absurd (eqb-false (absent_refusal air p.lane p.posts frames k) 0 q y)
 
 -- ---- a broadcast
 
@@ -149,7 +149,7 @@ first_kept s lane serial before frames ef h = rw (← ef, le-ltb before frames h
 
 -- ---- what stops a beacon
 
-pub beacon_judged : (air : List ℕ) (p : Post) (lane posts beacons n27 n21 n : ℕ) (here : Bool) → posts ≡ p.setup.posts → lane ≡ p.lane → here ≡ has_lane posts lane
+pub beacon_judged : (air : List ℕ) (p : Post) (lane posts beacons n27 n21 n : ℕ) (here : Bool) → posts ≡ p.posts → lane ≡ p.lane → here ≡ has_lane posts lane
     → n27 ≡ cond (spent beacons) 27 0 → n21 ≡ cond (not here) 21 n27 → n ≡ cond (bad_air air) 13 n21
     → n ≡ stops_beacon air p beacons
 beacon_judged air p lane posts beacons n27 n21 n here ep el eh e27 e21 en = rw (en, e21, e27, eh, ep, el)
@@ -158,8 +158,8 @@ beacon_judged air p lane posts beacons n27 n21 n here ep el eh e27 e21 en = rw (
 pub beacon_left : (air : List ℕ) (p : Post) (beacons : ℕ) → stops_beacon air p beacons ≡ 0 → (length air ≡ 65536) × (beacons < 128)
 beacon_left air p beacons z =
     let r27 : ℕ = cond (spent beacons) 27 0 in
-    let r21 : ℕ = cond (not_in_yard p.setup.posts p.lane) 21 r27 in
+    let r21 : ℕ = cond (not_in_yard p.posts p.lane) 21 r27 in
     let a = passed (bad_air air) 13 r21 (omega arith) z in
-    let b = passed (not_in_yard p.setup.posts p.lane) 21 r27 (omega arith) a.1 in
+    let b = passed (not_in_yard p.posts p.lane) 21 r27 (omega arith) a.1 in
     let d = passed (spent beacons) 27 0 (omega arith) b.1 in
     (eqb-true (length air) 65536 (not-false _ a.0), leb-false 128 beacons d.0)

@@ -10,7 +10,6 @@ use lib.ListN.{replicate}
 use borrow.Author.Tests.{eqb-false}
 use Rattle.post.specs.Record.{fresh_post}
 use Rattle.deliver.proofs.KnownLaws.{known_none}
-use Rattle.setup.specs.declared.Setup.{Setup}
 use Rattle.state.specs.Yards.{Yard, no_post, fresh_yard, yard_refusal}
 use Rattle.yard.specs.Singles.{yard_orders, yard_hears, yard_beacons}
 use Rattle.yard.specs.Worlds.{World, world_of, Single, order, hear, beacon, single, singles}
@@ -18,7 +17,7 @@ use Rattle.state.specs.States.{Held, whole, other}
 use Rattle.state.specs.Fresh.{nothing_known, fresh_in}
 use Rattle.yard.specs.InState.{After, after, orders_in, hears_in, beacons_in, Here, here_in, single_in, singles_in}
 use Rattle.yard.specs.Sound.{Sound, Holds, Does, StateSound}
-use Rattle.cells.proofs.Lanes.{at_lane}
+use Rattle.state.proofs.StateLaws.{at_lane}
 use Rattle.state.proofs.Exact.{held_all}
 use Rattle.yard.proofs.Sound.{orders_whole, hears_whole, beacons_whole}
 
@@ -77,28 +76,28 @@ singles_sound h w (x ∷ l) s = singles_sound (single_in h x) (single w x) l (si
 
 -- ---- a fresh yard
 
-pub fresh_held : (h : Held) (setup : Setup) → (fresh_in h setup).number ≡ 0
-    → (fresh_in h setup).held ≡ whole (fresh_yard setup) nothing_known
+pub fresh_held : (h : Held) (present sources dests : ℕ) → (fresh_in h present sources dests).number ≡ 0
+    → (fresh_in h present sources dests).held ≡ whole (fresh_yard present sources dests) nothing_known
 unfolding fresh_in
-fresh_held (other cells) setup z = go (eqb (ones setup.posts) 0) refl
+fresh_held (other cells) present sources dests z = go (eqb (ones present) 0) refl
   where
-    go : (b : Bool) → eqb (ones setup.posts) 0 ≡ b → other cells ≡ whole (fresh_yard setup) nothing_known
+    go : (b : Bool) → eqb (ones present) 0 ≡ b → other cells ≡ whole (fresh_yard present sources dests) nothing_known
     go true e = absurd (let q : ◌≡◌ {A = ℕ} 3 0 = rw e at z in omega arith)
     go false e = absurd (let q : ◌≡◌ {A = ℕ} 12 0 = rw e at z in omega arith)
-fresh_held (whole y knowns) setup z = go (eqb (yard_refusal setup) 0) refl
+fresh_held (whole y knowns) present sources dests z = go (eqb (yard_refusal present sources dests) 0) refl
   where
-    go : (b : Bool) → eqb (yard_refusal setup) 0 ≡ b
-        → (fresh_in (whole y knowns) setup).held ≡ whole (fresh_yard setup) nothing_known
+    go : (b : Bool) → eqb (yard_refusal present sources dests) 0 ≡ b
+        → (fresh_in (whole y knowns) present sources dests).held ≡ whole (fresh_yard present sources dests) nothing_known
     go true e = rw e
-    go false e = absurd (eqb-false (yard_refusal setup) 0 e (rw e at z))
+    go false e = absurd (eqb-false (yard_refusal present sources dests) 0 e (rw e at z))
 
-pub fresh_sound : (setup : Setup) → Sound (fresh_yard setup) nothing_known
+pub fresh_sound : (present sources dests : ℕ) → Sound (fresh_yard present sources dests) nothing_known
 unfolding fresh_yard
-fresh_sound setup = record {
+fresh_sound present sources dests = record {
   posts = refl;
   lists = refl;
   known = λ lane small.
-      rw (at_lane no_post (λ (i : ℕ). fresh_post i setup) lane small, at_lane {A = List ℕ} [] (λ (i : ℕ). replicate 8 0) lane small) (known_none (fresh_post lane setup));
+      rw (at_lane no_post (λ (i : ℕ). fresh_post i present sources dests) lane small, at_lane {A = List ℕ} [] (λ (i : ℕ). replicate 8 0) lane small) (known_none (fresh_post lane present sources dests));
 }
 
 pub state_sound : StateSound

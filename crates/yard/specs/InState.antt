@@ -30,7 +30,8 @@ after answer state air = record { answer = answer; held = held_in state; air = a
 -- y with another record of a lane, and so many frames on the air; where an order was broadcast, the number of its first frame is noted
 abbrev pub with_order : Yard → ℕ → Post → ℕ → Yard
 with_order y lane p frames = record {
-  setup = y.setup;
+  present = y.present;
+  sources = y.sources;
   posts = set y.posts lane p;
   frames = frames;
   beacons = y.beacons;

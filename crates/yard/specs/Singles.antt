@@ -80,7 +80,8 @@ yard_orders air y lane word =
     (record {
       answer = s.answer;
       yard = record {
-        setup = y.setup;
+        present = y.present;
+        sources = y.sources;
         posts = set y.posts lane s.post;
         frames = s.frames;
         beacons = y.beacons;
@@ -102,7 +103,7 @@ absent_refusal air lane posts frames k = cond (bad_air air) 13 (cond (not_on_air
 -- what stops it before the post judges it: no air, no frame k, bytes that are no frame
 abbrev pub stops_hearing : List ℕ → Post → ℕ → ℕ → ℕ
 stops_hearing air p frames k =
-    let absent = absent_refusal air p.lane p.setup.posts frames k in
+    let absent = absent_refusal air p.lane p.posts frames k in
     cond (eqb absent 0) (read_refusal (stretch_at air k)) absent
 
 -- the frame that it hears
@@ -139,7 +140,7 @@ yard_hears_air air y lane k = cond (ltb lane 8) (post_hears_air air (post_at y l
 
 -- what stops it before the post sends it, where the post has sent so many
 abbrev pub stops_beacon : List ℕ → Post → ℕ → ℕ
-stops_beacon air p beacons = cond (bad_air air) 13 (cond (not_in_yard p.setup.posts p.lane) 21 (cond (spent beacons) 27 0))
+stops_beacon air p beacons = cond (bad_air air) 13 (cond (not_in_yard p.posts p.lane) 21 (cond (spent beacons) 27 0))
 
 -- the post that sends a beacon, with the beacon on the air; the post itself stays
 unfoldable pub post_beacons : List ℕ → Post → ℕ → ℕ → PostBeaconed

@@ -1,7 +1,6 @@
 -- What the steps on a state have to do with document 01's yard; `state_sound` in proofs/Theorem.antt proves it. Assumes nothing.
 use Rattle.std.specs.Prelude.{◌≡◌, List, [], ℕ, ◌<◌, length, get_or}
 use Rattle.deliver.specs.Known.{Known}
-use Rattle.setup.specs.declared.Setup.{Setup}
 use Rattle.state.specs.Yards.{Yard, post_at, fresh_yard}
 use Rattle.yard.specs.Singles.{yard_orders, yard_hears, yard_beacons}
 use Rattle.yard.specs.Worlds.{World, Single, order, hear, beacon, single, singles}
@@ -37,8 +36,8 @@ pub record StateSound : Type 0 where
   -- and so does a list of them
   pub list : (h : Here) (w : World) (l : List Single) → Holds h w → Holds (singles_in h l) (singles w l)
   -- a fresh yard that is not refused is held, and it is one to begin with
-  pub fresh : (h : Held) (setup : Setup) → (fresh_in h setup).number ≡ 0
-      → (fresh_in h setup).held ≡ whole (fresh_yard setup) nothing_known
-  pub begins : (setup : Setup) → Sound (fresh_yard setup) nothing_known
+  pub fresh : (h : Held) (present sources dests : ℕ) → (fresh_in h present sources dests).number ≡ 0
+      → (fresh_in h present sources dests).held ≡ whole (fresh_yard present sources dests) nothing_known
+  pub begins : (present sources dests : ℕ) → Sound (fresh_yard present sources dests) nothing_known
   -- what a state holds is all of it: no two states hold the same
   pub all : (s t : List ℕ) → held_in s ≡ held_in t → s ≡ t

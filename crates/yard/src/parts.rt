@@ -29,7 +29,7 @@ pub(crate) fn frame_for(row: &[u16], air: &[u8], frames: u16, k: usize) -> Frame
 
 // What the post of a row is told where the air refuses a frame (13, 25): a post that is not in the yard 21, before 25.
 fn absent(row: &[u16], number: u8) -> u8
-    ensures { result ≡ cond (eqb number 25 && not_in_yard (post_in row.now).setup.posts (post_in row.now).lane) 21 number }
+    ensures { result ≡ cond (eqb number 25 && not_in_yard (post_in row.now).posts (post_in row.now).lane) 21 number }
 {
     let numbers = row::read_numbers(row);
     let here = cells::has(numbers.posts, numbers.lane);

@@ -5,18 +5,9 @@ use crate::side::{Records, Side, SIDES};
 use crate::work::{Lent, PostStep, Work};
 use drift_reference::frame::FRAME_LENGTH;
 use drift_reference::post::Post;
-use drift_reference::setup::Setup;
 use std::env;
 use std::io::ErrorKind;
 use std::process::Command;
-
-/// The yard of the first post: a post alone, both source and dest.
-const FIRST_SETUP: Setup = Setup {
-    posts: 1,
-    sources: 1,
-    dests: 1,
-    entries: 8,
-};
 
 /// A good script, log and file for the calls before the counted ones.
 const FIRST_SCRIPT: &[u8] = b"(yard (0 both))\n(order 0 1)\n(roll)\n";
@@ -94,7 +85,7 @@ fn first_calls(side: &Side, lent: &mut Lent) {
         PostStep::Hear([0; FRAME_LENGTH]),
         PostStep::Beacon,
     ];
-    let post = Post::fresh(0, FIRST_SETUP).expect("a good post");
+    let post = Post::fresh(0, 1, 1, 1).expect("a good post");
     Work::Post(Box::new(Records::new(&post)), steps).run(side, lent);
     Work::CsvWrite(FIRST_LOG.to_vec()).run(side, lent);
     Work::CsvRead(FIRST_FILE.to_vec()).run(side, lent);

@@ -176,7 +176,6 @@ mod tests {
     use super::{PostStep, Work};
     use crate::side::{Records, Side, SIDES};
     use drift_reference::post::Post;
-    use drift_reference::setup::Setup;
 
     const BEACON: [u8; 32] = {
         let mut bytes = [0; 32];
@@ -187,13 +186,7 @@ mod tests {
     fn works() -> [Work; 7] {
         let mut fields = vec![0; 22];
         fields[0] = 2;
-        let setup = Setup {
-            posts: 3,
-            sources: 3,
-            dests: 3,
-            entries: 8,
-        };
-        let post = Post::fresh(1, setup).expect("a good post");
+        let post = Post::fresh(1, 3, 3, 3).expect("a good post");
         let steps = vec![PostStep::Order(7), PostStep::Hear(BEACON), PostStep::Beacon];
         [
             Work::Check(vec![BEACON.to_vec()]),

@@ -43,7 +43,7 @@ fn check_list(
     for steps in [&steps, &changed] {
         let ran = check_steps(library, yard, steps, lane);
         let refusals = ran.map_err(|what| (lane, write_script(yard, steps), what))?;
-        tally.add_list(yard, steps, &refusals, lane);
+        tally.add_list(steps, &refusals, lane);
     }
     tally.add_change(&steps, &changed, lane);
     Ok(())

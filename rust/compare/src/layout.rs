@@ -3,7 +3,6 @@
 use crate::report::lane_and_serial;
 use drift_reference::frame::{Serial, Stamp, LANES};
 use drift_reference::post::{Post, ORDERS, TABLE_LENGTH};
-use drift_reference::setup::Setup;
 use std::array;
 
 // Cells of a row, counted from its start.
@@ -19,13 +18,11 @@ pub const TABLE: usize = KNOWN + LANES;
 pub const STAMPS: usize = TABLE + TABLE_LENGTH;
 pub const WORDS: usize = STAMPS + ORDERS;
 pub const LOG: usize = WORDS + ORDERS;
-pub const ENTRIES: usize = LOG + ORDERS;
-pub const SPARE: usize = ENTRIES + 1;
-pub const POSTS: usize = SPARE + 1;
+pub const POSTS: usize = LOG + ORDERS;
 /// Number of cells of a row.
 pub const ROW_CELLS: usize = POSTS + 1;
 
-const _: () = assert!(ROW_CELLS == 545);
+const _: () = assert!(ROW_CELLS == 543);
 
 /// The post of a row. A number that is too large for its range is the largest of
 /// its kind, and so too large still.
@@ -35,13 +32,9 @@ pub fn read_row(row: &[u16]) -> Post {
     let wide_from = |start: usize| move |index: usize| row[start + index];
     Post {
         lane: narrow(LANE),
-        setup: Setup {
-            posts: narrow(POSTS),
-            sources: narrow(SOURCES),
-            dests: narrow(DESTS),
-            entries: narrow(ENTRIES),
-        },
-        spare: narrow(SPARE),
+        posts: narrow(POSTS),
+        sources: narrow(SOURCES),
+        dests: narrow(DESTS),
         clock: Stamp(row[CLOCK]),
         serial: Serial(narrow(SERIAL)),
         last: array::from_fn(narrow_from(LAST)),
@@ -56,8 +49,8 @@ pub fn read_row(row: &[u16]) -> Post {
 /// Writes the row of a post, and what it is known to have of each lane in its log.
 pub fn write_row(post: &Post, known: [u8; LANES], row: &mut [u16]) {
     row[LANE] = post.lane.into();
-    row[SOURCES] = post.setup.sources.into();
-    row[DESTS] = post.setup.dests.into();
+    row[SOURCES] = post.sources.into();
+    row[DESTS] = post.dests.into();
     row[CLOCK] = post.clock.0;
     row[SERIAL] = post.serial.0.into();
     row[LOGGED] = post.logged.into();
@@ -66,10 +59,8 @@ pub fn write_row(post: &Post, known: [u8; LANES], row: &mut [u16]) {
     row[TABLE..STAMPS].copy_from_slice(&post.table);
     row[STAMPS..WORDS].copy_from_slice(&post.stamps);
     row[WORDS..LOG].copy_from_slice(&post.words);
-    row[LOG..ENTRIES].copy_from_slice(&post.log.map(u16::from));
-    row[ENTRIES] = post.setup.entries.into();
-    row[SPARE] = post.spare.into();
-    row[POSTS] = post.setup.posts.into();
+    row[LOG..POSTS].copy_from_slice(&post.log.map(u16::from));
+    row[POSTS] = post.posts.into();
 }
 
 /// The cells of a record: those of a row of which nothing is known.
@@ -93,9 +84,7 @@ pub fn row_field(at: usize) -> String {
         TABLE..STAMPS => format!("table at {}", lane_and_serial(at - TABLE, 17, 0)),
         STAMPS..WORDS => format!("stamp of {}", lane_and_serial(at - STAMPS, 16, 1)),
         WORDS..LOG => format!("word of {}", lane_and_serial(at - WORDS, 16, 1)),
-        LOG..ENTRIES => format!("log at {}", at - LOG),
-        ENTRIES => "entries".into(),
-        SPARE => "spare".into(),
+        LOG..POSTS => format!("log at {}", at - LOG),
         _ => "posts".into(),
     }
 }

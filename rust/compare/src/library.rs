@@ -30,8 +30,8 @@ pub trait Library {
     /// answered, or that script or state are refused, as one number.
     fn script_state(&self, script: &mut [u8], air: &mut [u8], state: &mut [u16]) -> u64;
 
-    /// Makes a fresh post by lane, posts, sources, dests and entries: 0, or the refusal.
-    fn post_fresh(&self, post: &mut Record, asked: [u8; 5]) -> u8;
+    /// Makes a fresh post by lane, posts, sources and dests: 0, or the refusal.
+    fn post_fresh(&self, post: &mut Record, asked: [u8; 4]) -> u8;
 
     /// Sends an order; gives refusal, code, count, serial and stamp as one number.
     fn post_order(&self, post: &mut Record, word: u16, buffer: &mut [u8]) -> u64;
@@ -111,9 +111,8 @@ impl Library for Proved {
         }
     }
 
-    fn post_fresh(&self, post: &mut Record, asked: [u8; 5]) -> u8 {
-        let [lane, posts, sources, dests, entries] = asked;
-        unsafe { raw::drift_post_fresh(post, lane, posts, sources, dests, entries) }
+    fn post_fresh(&self, post: &mut Record, [lane, posts, sources, dests]: [u8; 4]) -> u8 {
+        unsafe { raw::drift_post_fresh(post, lane, posts, sources, dests) }
     }
 
     fn post_order(&self, post: &mut Record, word: u16, buffer: &mut [u8]) -> u64 {

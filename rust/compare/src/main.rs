@@ -6,7 +6,6 @@
 
 mod answer;
 mod arguments;
-mod broadcast;
 mod calls;
 mod csv;
 mod damage;

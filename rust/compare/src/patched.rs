@@ -10,7 +10,7 @@ type Read = dyn Fn(&mut [u8], &mut [u16]) -> u8;
 type Write = dyn Fn(&mut [u16], &mut [u8]) -> u8;
 type Run = dyn Fn(&mut [u8], &mut [u8], &mut [u8]) -> usize;
 type State = dyn Fn(&mut [u8], &mut [u8], &mut [u16]) -> u64;
-type Fresh = dyn Fn(&mut Record, [u8; 5]) -> u8;
+type Fresh = dyn Fn(&mut Record, [u8; 4]) -> u8;
 type Order = dyn Fn(&mut Record, u16, &mut [u8]) -> u64;
 type Hear = dyn Fn(&mut Record, &mut [u8], &mut [u8]) -> u64;
 type Beacon = dyn Fn(&mut Record, &mut [u8]) -> u8;
@@ -73,7 +73,7 @@ impl Library for Patched {
         (self.script_state)(script, air, state)
     }
 
-    fn post_fresh(&self, post: &mut Record, asked: [u8; 5]) -> u8 {
+    fn post_fresh(&self, post: &mut Record, asked: [u8; 4]) -> u8 {
         (self.post_fresh)(post, asked)
     }
 

@@ -1,7 +1,6 @@
 //! The comparison of a library with the second implementation on single posts.
 
 mod breaks;
-mod changes;
 pub mod clauses;
 mod hearings;
 mod history;
@@ -15,7 +14,6 @@ use crate::second::Second;
 use crate::tally::Tally;
 use drift_reference::frame::{Frame, FRAME_LENGTH};
 use drift_reference::post::Post;
-use drift_reference::setup::Setup;
 use history::History;
 
 const STEPS: [Step; 4] = [Step::Fresh, Step::Order, Step::Hear, Step::Beacon];
@@ -61,7 +59,7 @@ impl Comparison {
                 library,
             }));
         }
-        self.tally.add(request, &reference);
+        self.tally.add(request, request.outcome(&reference));
         Ok(())
     }
 }
@@ -126,7 +124,7 @@ fn request(random: &mut Random, step: Step, frame: &[u8; FRAME_LENGTH], post: Po
     lent.area[..FRAME_LENGTH].copy_from_slice(frame);
     Request {
         step,
-        asked: lane_and_setup(&post),
+        asked: lane_and_sets(&post),
         word: random.between_often_an_end(0, u16::MAX),
         frame: lent,
         buffer: random_area(random),
@@ -135,20 +133,14 @@ fn request(random: &mut Random, step: Step, frame: &[u8; FRAME_LENGTH], post: Po
     }
 }
 
-fn lane_and_setup(post: &Post) -> [u8; 5] {
-    let Setup {
-        posts,
-        sources,
-        dests,
-        entries,
-    } = post.setup;
-    [post.lane, posts, sources, dests, entries]
+fn lane_and_sets(post: &Post) -> [u8; 4] {
+    [post.lane, post.posts, post.sources, post.dests]
 }
 
 /// A fresh post is asked for with what stood in the record. The record lent is
 /// another, good or not: it must not matter, and a refusal must leave it.
 fn lend_another_record(random: &mut Random, request: &mut Request) {
-    request.asked = lane_and_setup(&request.post);
+    request.asked = lane_and_sets(&request.post);
     request.post = match random.one_in(2) {
         true => made_up::record(random),
         false => made_up::all_random(random, u8::MAX),

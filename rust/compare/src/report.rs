@@ -66,12 +66,9 @@ fn told(step: Step, answer: u64) -> String {
 fn describe_arguments(request: &Request, line: &mut impl FnMut(&str, &dyn Display)) {
     match request.step {
         Step::Fresh => {
-            let [lane, posts, sources, dests, entries] = request.asked;
+            let [lane, posts, sources, dests] = request.asked;
             let sets = format!("posts {posts:08b}, sources {sources:08b}, dests {dests:08b}");
-            line(
-                "asked for",
-                &format!("lane {lane}, {sets}, entries {entries}"),
-            );
+            line("asked for", &format!("lane {lane}, {sets}"));
             return;
         }
         Step::Order => line("word", &request.word),
@@ -84,14 +81,12 @@ fn describe_arguments(request: &Request, line: &mut impl FnMut(&str, &dyn Displa
 fn describe_record(post: &Post, line: &mut impl FnMut(&str, &dyn Display)) {
     line("lane", &post.lane);
     for (name, set) in [
-        ("posts", post.setup.posts),
-        ("sources", post.setup.sources),
-        ("dests", post.setup.dests),
+        ("posts", post.posts),
+        ("sources", post.sources),
+        ("dests", post.dests),
     ] {
         line(name, &format!("{set:08b}"));
     }
-    line("entries", &post.setup.entries);
-    line("spare", &post.spare);
     line("clock", &post.clock.0);
     line("own serial", &post.serial.0);
     line("last taken", &format!("{:?}", post.last));

@@ -27,8 +27,8 @@ pub struct Lent {
 #[derive(Clone, Debug, PartialEq, Eq)]
 pub struct Request {
     pub step: Step,
-    /// Lane, posts, sources, dests and entries with which a fresh post is asked for.
-    pub asked: [u8; 5],
+    /// Lane, posts, sources and dests with which a fresh post is asked for.
+    pub asked: [u8; 4],
     pub word: u16,
     pub frame: Lent,
     pub buffer: Lent,

@@ -33,7 +33,6 @@ fn record() -> Record {
         posts: 0b111,
         sources: 0b011,
         dests: 0b101,
-        entries: 8,
         clock: 1,
         serial: 1,
         ..Record::EMPTY
@@ -48,7 +47,7 @@ fn record() -> Record {
 fn hearing() -> Request {
     Request {
         step: Step::Hear,
-        asked: [0; 5],
+        asked: [0; 4],
         word: 0xEEEE,
         frame: area(&FRAME_2, 0),
         buffer: area(&[], MARGIN),
@@ -129,37 +128,20 @@ fn an_order_and_a_beacon_are_answered_number_for_number() {
     assert_runs(&request, &expected);
 }
 
-/// With one entry the buffer has that of lane 0, the post's own, and not that of lane 1.
 #[test]
-fn a_hearing_with_one_entry_passes_on_less() {
-    let (mut request, mut expected) = (hearing(), heard());
-    request.post.setup.entries = 1;
-    expected.record.record.entries = 1;
-    expected.buffer = frame(&FRAME_4[..11]);
-    assert_runs(&request, &expected);
-}
-
-#[test]
-fn a_fresh_post_is_made_of_five_numbers_or_leaves_the_record() {
+fn a_fresh_post_is_made_of_four_numbers_or_leaves_the_record() {
     let mut request = hearing();
-    (request.step, request.asked) = (Step::Fresh, [6, 0x41, 0x40, 0x01, 3]);
+    (request.step, request.asked) = (Step::Fresh, [6, 0x41, 0x40, 0x01]);
     let mut expected = unchanged(&request, 0);
     expected.record.record = Record {
         lane: 6,
         posts: 0x41,
         sources: 0x40,
         dests: 0x01,
-        entries: 3,
         ..Record::EMPTY
     };
     assert_runs(&request, &expected);
-    for (at, number, refusal) in [
-        (0, 8, 12),
-        (2, 0x80, 12),
-        (4, 0, 12),
-        (4, 9, 12),
-        (0, 1, 21),
-    ] {
+    for (at, number, refusal) in [(0, 8, 12), (2, 0x80, 12), (0, 1, 21)] {
         let mut request = request.clone();
         request.asked[at] = number;
         assert_runs(&request, &unchanged(&request, refusal));
@@ -169,7 +151,7 @@ fn a_fresh_post_is_made_of_five_numbers_or_leaves_the_record() {
 type Change = fn(&mut Ran);
 
 /// Changes of what a hearing left, and how the difference is told.
-const CHANGES: [(Change, &str); 19] = [
+const CHANGES: [(Change, &str); 17] = [
     (
         |ran| ran.answer ^= 0x1100,
         "code: second implementation 2, static library 19",
@@ -197,11 +179,6 @@ const CHANGES: [(Change, &str); 19] = [
         " beside the record",
     ),
     (|ran| ran.record.record.dests ^= 1, "dests"),
-    (
-        |ran| ran.record.record.entries ^= 1,
-        "entries: second implementation 8, static library 9",
-    ),
-    (|ran| ran.record.record.spare ^= 1, "spare"),
     (
         |ran| ran.record.record.clock ^= 0x11,
         "clock: second implementation 4, static library 21",
@@ -268,7 +245,7 @@ fn a_difference_names_its_fields() {
 fn a_difference_of_a_fresh_post_tells_what_was_asked_for() {
     let request = Request {
         step: Step::Fresh,
-        asked: [1, 3, 2, 4, 9],
+        asked: [1, 3, 2, 4],
         ..hearing()
     };
     let (reference, library) = (unchanged(&request, 12), unchanged(&request, 0));
@@ -279,7 +256,7 @@ fn a_difference_of_a_fresh_post_tells_what_was_asked_for() {
         library,
     });
     for part in [
-        "asked for             lane 1, posts 00000011, sources 00000010, dests 00000100, entries 9",
+        "asked for             lane 1, posts 00000011, sources 00000010, dests 00000100",
         "second implementation refusal 12\nstatic library        refusal 0\n",
         "differs               refusal: second implementation 12, static library 0",
     ] {

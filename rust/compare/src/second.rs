@@ -8,7 +8,6 @@ use drift_reference::csv;
 use drift_reference::frame::{check, Frame, NOT_32_BYTES};
 use drift_reference::post::Post;
 use drift_reference::script;
-use drift_reference::setup::Setup;
 
 /// The second implementation.
 pub struct Second;
@@ -56,15 +55,8 @@ impl Library for Second {
         answered.number()
     }
 
-    fn post_fresh(&self, post: &mut Record, asked: [u8; 5]) -> u8 {
-        let [lane, posts, sources, dests, entries] = asked;
-        let setup = Setup {
-            posts,
-            sources,
-            dests,
-            entries,
-        };
-        match Post::fresh(lane, setup) {
+    fn post_fresh(&self, post: &mut Record, [lane, posts, sources, dests]: [u8; 4]) -> u8 {
+        match Post::fresh(lane, posts, sources, dests) {
             Err(number) => number,
             Ok(fresh) => {
                 *post = record_of(&fresh);

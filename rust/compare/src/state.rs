@@ -12,23 +12,19 @@ const SOURCES: usize = 1;
 pub const FRAMES: usize = 2;
 pub const BEACONS: usize = 3;
 pub const FIRST: usize = BEACONS + LANES;
-pub const DESTS: usize = FIRST + ORDERS;
-pub const ENTRIES: usize = DESTS + 1;
-pub const ROWS: usize = ENTRIES + 1;
+pub const ROWS: usize = FIRST + ORDERS;
 /// Number of cells of a state.
 pub const STATE_CELLS: usize = ROWS + LANES * ROW_CELLS;
 
-const _: () = assert!(STATE_CELLS == 4_501);
+const _: () = assert!(STATE_CELLS == 4_483);
 
 /// Writes the yard that a script left.
 pub fn write_state(yard: &Yard, state: &mut [u16]) {
-    state[POSTS] = yard.setup.posts.into();
-    state[SOURCES] = yard.setup.sources.into();
+    state[POSTS] = yard.present.into();
+    state[SOURCES] = yard.sources.into();
     state[FRAMES] = yard.frames;
     state[BEACONS..FIRST].copy_from_slice(&yard.beacons);
-    state[FIRST..DESTS].copy_from_slice(&yard.first);
-    state[DESTS] = yard.setup.dests.into();
-    state[ENTRIES] = yard.setup.entries.into();
+    state[FIRST..ROWS].copy_from_slice(&yard.first);
     let rows = state[ROWS..].chunks_exact_mut(ROW_CELLS);
     for (post, row) in yard.posts.iter().zip(rows) {
         write_row(post, known(post), row);
@@ -39,7 +35,7 @@ pub fn write_state(yard: &Yard, state: &mut [u16]) {
 /// a destination as many as are there, elsewhere 0.
 fn known(post: &Post) -> [u8; LANES] {
     let mut known = [0; LANES];
-    if post.setup.dests >> post.lane & 1 == 1 {
+    if post.dests >> post.lane & 1 == 1 {
         for place in &post.log[..usize::from(post.logged)] {
             known[usize::from(place / 16)] += 1;
         }
@@ -55,11 +51,6 @@ impl State<'_> {
     /// The record of a lane, 0 to 7.
     pub fn post(self, lane: usize) -> Post {
         read_row(&self.0[ROWS + ROW_CELLS * lane..][..ROW_CELLS])
-    }
-
-    /// What line 1 says: posts, sources, dests and entries.
-    pub fn setup(self) -> [u16; 4] {
-        [POSTS, SOURCES, DESTS, ENTRIES].map(|at| self.0[at])
     }
 
     pub fn frames(self) -> u16 {
@@ -84,9 +75,7 @@ pub fn state_field(at: usize) -> String {
         SOURCES => "sources".into(),
         FRAMES => "frames".into(),
         BEACONS..FIRST => format!("beacons of lane {}", at - BEACONS),
-        FIRST..DESTS => format!("first frame of {}", lane_and_serial(at - FIRST, 16, 1)),
-        DESTS => "dests".into(),
-        ENTRIES => "entries".into(),
+        FIRST..ROWS => format!("first frame of {}", lane_and_serial(at - FIRST, 16, 1)),
         _ => {
             let (lane, cell) = ((at - ROWS) / ROW_CELLS, (at - ROWS) % ROW_CELLS);
             format!("post {lane}: {}", row_field(cell))

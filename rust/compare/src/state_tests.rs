@@ -4,7 +4,6 @@ use crate::library::Library;
 use crate::second::Second;
 use crate::state::{state_field, State, STATE_CELLS};
 use drift_reference::post::Post;
-use drift_reference::setup::Setup;
 
 /// The first six lines of the script in document 01.
 const SCRIPT: &str = "(yard (0 both) (1 source) (2 dest))\n(order 0 417)\n(hear 1 0)\n\
@@ -12,15 +11,15 @@ const SCRIPT: &str = "(yard (0 both) (1 source) (2 dest))\n(order 0 417)\n(hear 
 
 /// The state behind a script, and what was answered.
 fn run(script: &str) -> (Vec<u16>, u64) {
-    let (mut air, mut state) = (vec![0xEE; 65_536], vec![0xEEEE; 4_501]);
+    let (mut air, mut state) = (vec![0xEE; 65_536], vec![0xEEEE; 4_483]);
     let mut script = script.as_bytes().to_vec();
     let answer = Second.script_state(&mut script, &mut air, &mut state);
     (state, answer)
 }
 
 /// The row of post 0, which has just heard the order of post 1.
-fn first_row() -> [u16; 545] {
-    let mut row = [0; 545];
+fn first_row() -> [u16; 543] {
+    let mut row = [0; 543];
     let mut put = |at: usize, values: &[u16]| row[at..at + values.len()].copy_from_slice(values);
     // Lane, sources, dests, clock, own serial, length of the log.
     put(0, &[0, 0b011, 0b101, 4, 1, 2]);
@@ -34,9 +33,9 @@ fn first_row() -> [u16; 545] {
     put(158 + 16, &[3]);
     put(286, &[417]);
     put(286 + 16, &[90]);
-    // The log; then the entries, the spare cell and the posts.
+    // The log, and the posts.
     put(414, &[0, 16]);
-    put(542, &[8, 0, 0b111]);
+    put(542, &[0b111]);
     row
 }
 
@@ -51,35 +50,20 @@ fn a_state_is_written_cell_for_cell() {
     let mut first = [0; 128];
     first[16] = 2;
     assert_eq!(state[11..139], first);
-    // Destinations, and the entries of a broadcast.
-    assert_eq!(state[139..141], [0b101, 8]);
-    assert_eq!(state[141..686], first_row());
+    assert_eq!(state[139..682], first_row());
     // Post 1: clock 3, own serial 1, last taken 1 of lanes 0 and 1; no log.
-    assert_eq!(state[686..686 + 9], [1, 3, 5, 3, 1, 0, 1, 1, 0]);
-    assert_eq!(state[686 + 14..686 + 22], [0; 8]);
+    assert_eq!(state[682..682 + 9], [1, 3, 5, 3, 1, 0, 1, 1, 0]);
+    assert_eq!(state[682 + 14..682 + 22], [0; 8]);
     // Post 2 has logged the order of lane 0, and knows it.
-    let row = &state[141 + 2 * 545..141 + 3 * 545];
+    let row = &state[139 + 2 * 543..139 + 3 * 543];
     assert_eq!(row[..9], [2, 3, 5, 0, 0, 1, 1, 0, 0]);
     assert_eq!(row[14..22], [1, 0, 0, 0, 0, 0, 0, 0]);
-    // Lanes without a post have a fresh row with the yard's sets and entries.
+    // Lanes without a post have a fresh row with the yard's sets.
     for lane in 3..8 {
-        let row = &state[141 + 545 * lane..][..545];
+        let row = &state[139 + 543 * lane..][..543];
         assert_eq!(row[..3], [lane as u16, 3, 5]);
         assert!(row[3..542].iter().all(|&cell| cell == 0));
-        assert_eq!(row[542..], [8, 0, 7]);
-    }
-}
-
-/// The entries stand in the yard's cell and in each row; nothing else differs.
-#[test]
-fn the_entries_of_a_broadcast_have_their_cells() {
-    let (mut expected, _) = run("(yard (0 both) (1 source))\n");
-    for entries in 1..=8 {
-        let (state, _) = run(&format!("(yard (0 both) (1 source) (entries {entries}))\n"));
-        expected[140] = entries;
-        (0..8).for_each(|lane| expected[141 + 545 * lane + 542] = entries);
-        assert_eq!(state, expected);
-        assert_eq!(State(&state).setup(), [3, 3, 1, entries]);
+        assert_eq!(row[542], 7);
     }
 }
 
@@ -104,7 +88,7 @@ fn what_is_known_is_counted_in_the_log() {
     let orders = "(order 0 1)\n(order 0 2)\n(order 3 3)\n(order 0 4)\n(roll)\n(order 3 5)\n";
     let (state, _) = run(&format!("{yard}{orders}"));
     for lane in 0..8 {
-        let known = &state[141 + 545 * lane + 14..][..8];
+        let known = &state[139 + 543 * lane + 14..][..8];
         let expected = match lane {
             0 | 7 => [3, 0, 0, 1, 0, 0, 0, 0],
             _ => [0; 8],
@@ -132,18 +116,17 @@ fn a_refused_script_answers_line_and_number_and_leaves_the_state() {
     for (script, answer) in [
         (longest.as_str(), 0x0901),
         ("", 0x0001_0000_0000_0903),
-        ("(yard (0 both) (entries 9))\n", 0x0001_0000_0000_0921),
         ("(yard (0 both))\n(roll)\n(roll )\n", 0x0003_0000_0000_0902),
         ("(yard (0 both))\n(beacon 8)\n", 0x0002_0000_0000_0904),
         ("(yard (0 both))\n(order 0 65536)\n", 0x0002_0000_0000_0905),
     ] {
-        assert_eq!(run(script), (vec![0xEEEE; 4_501], answer), "{script}");
+        assert_eq!(run(script), (vec![0xEEEE; 4_483], answer), "{script}");
     }
 }
 
 #[test]
 fn a_state_of_another_length_is_refused_before_the_script() {
-    for length in [0, 4_476, 4_483, 4_500, 4_502] {
+    for length in [0, 4_476, 4_482, 4_484] {
         for script in ["(yard (0 both))\n(beacon 0)\n", "(roll)\n", ""] {
             let (mut air, mut state) = (vec![0xEE; 65_536], vec![0xEEEE; length]);
             let mut text = script.as_bytes().to_vec();
@@ -162,20 +145,17 @@ fn a_state_is_looked_at() {
     assert_eq!(state.beacons(), [1, 0, 0, 0, 0, 0, 0, 0]);
     assert_eq!((state.first(16), state.first(17)), (2, 6));
     let post = state.post(1);
-    let setup = Setup {
-        posts: 7,
-        sources: 3,
-        dests: 5,
-        entries: 8,
-    };
-    assert_eq!((post.lane, post.setup, post.spare), (1, setup, 0));
+    assert_eq!(
+        (post.lane, post.posts, post.sources, post.dests),
+        (1, 7, 3, 5)
+    );
     assert_eq!(
         (post.words[17], post.serial.0, post.last[1]),
         (65_535, 2, 2)
     );
     // A number that is too large stays too large.
     let mut large = state.0.to_vec();
-    large[141 + 545 + 5] = 0x0101;
+    large[139 + 543 + 5] = 0x0101;
     assert_eq!(
         State(&large).post(1),
         Post {
@@ -195,9 +175,6 @@ fn the_library_for_hosts_reads_the_same() {
     let read = drift_library::State::read(&state).expect("a state");
     let own = State(&state);
     assert_eq!((read.frames, read.beacons), (own.frames(), own.beacons()));
-    let setup = read.setup;
-    let setup = [setup.posts, setup.sources, setup.dests, setup.entries];
-    assert_eq!(setup.map(u16::from), own.setup());
     for (lane, row) in read.rows.iter().enumerate() {
         assert_eq!(drift_records::post_of(&row.post), own.post(lane));
     }
@@ -216,18 +193,14 @@ fn every_cell_of_a_state_has_its_name() {
         (10, "beacons of lane 7"),
         (11, "first frame of lane 0, serial 1"),
         (138, "first frame of lane 7, serial 16"),
-        (139, "dests"),
-        (140, "entries"),
-        (141, "post 0: lane"),
-        (144, "post 0: clock"),
-        (146, "post 0: length of the log"),
-        (686 + 21, "post 1: known of lane 7"),
-        (686 + 22, "post 1: table at lane 0, serial 0"),
-        (686 + 157, "post 1: table at lane 7, serial 16"),
-        (3_956 + 414, "post 7: log at 0"),
-        (3_956 + 542, "post 7: entries"),
-        (3_956 + 543, "post 7: spare"),
-        (4_500, "post 7: posts"),
+        (139, "post 0: lane"),
+        (142, "post 0: clock"),
+        (144, "post 0: length of the log"),
+        (682 + 21, "post 1: known of lane 7"),
+        (682 + 22, "post 1: table at lane 0, serial 0"),
+        (682 + 157, "post 1: table at lane 7, serial 16"),
+        (3_940 + 414, "post 7: log at 0"),
+        (4_482, "post 7: posts"),
     ] {
         assert_eq!(names[at], expected);
     }

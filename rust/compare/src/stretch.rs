@@ -101,7 +101,7 @@ mod tests {
     fn numbers_are_lent_at_no_better_address_than_is_promised() {
         let bytes = Stretch::new([0u8; 65_536], 0);
         assert_eq!(bytes.numbers().as_ptr().addr() % 2, 1);
-        let cells = Stretch::new([0u16; 4_501], 0);
+        let cells = Stretch::new([0u16; 4_483], 0);
         assert_eq!(cells.numbers().as_ptr().addr() % 4, 2);
     }
 }

@@ -1,13 +1,9 @@
-//! How often each step, answer and refusal came, each number of entries in a broadcast,
-//! and each clause of refusal 12.
+//! How often each step, answer and refusal came, and each clause of refusal 12.
 
-use crate::answer::{Answer, ANSWERS};
-use crate::broadcast::{Told, KINDS};
-use crate::lent_record::post_of;
+use crate::answer::{Answer, Answered, ANSWERS};
 use crate::posts::clauses::{broken_alone, judged_record, CLAUSES, ENDS};
-use crate::request::{Ran, Request, Step};
+use crate::request::{Request, Step};
 use drift_reference::post::BAD_RECORD;
-use drift_reference::setup::MOST_ENTRIES;
 use std::fmt;
 
 /// Each step with its name and the answers and refusals that it can give.
@@ -39,9 +35,6 @@ const REFUSALS: usize = 31;
 /// Width of the names; that of a clause is the longest.
 const NAME: usize = 44;
 
-/// A name, and a count for each step that can have one.
-type Row = (String, [Option<u64>; 4]);
-
 /// Counts by step, and in each by answer and by refusal number.
 #[derive(Debug, Default)]
 pub struct Tally {
@@ -49,42 +42,26 @@ pub struct Tally {
     refusals: [[u64; REFUSALS]; 4],
     /// Steps that delivered at least one order.
     delivering: [u64; 4],
-    /// Broadcasts by the number of entries that they may carry, and by kind.
-    entries: [[u64; MOST_ENTRIES as usize]; 4],
-    kinds: [[u64; KINDS.len()]; 4],
     /// Refusals by 12 where a record breaks one clause alone.
     clauses: [[u64; CLAUSES.len()]; 4],
-    /// The same, where a range is broken by the first bad number at an end.
-    first_bad: [[u64; ENDS.len()]; 4],
-    /// Records that passed 12 with the last good number at an end of a range.
-    last_good: [[u64; ENDS.len()]; 4],
+    /// The same, where a range is broken by its least bad number.
+    least_bad: [[u64; ENDS.len()]; 4],
+    /// Records that passed 12 with the largest good number of a range.
+    largest_good: [[u64; ENDS.len()]; 4],
 }
 
 impl Tally {
-    /// Counts a request with what it rightly came to.
-    pub fn add(&mut self, request: &Request, right: &Ran) {
+    /// Counts a request with the right outcome of it.
+    pub fn add(&mut self, request: &Request, outcome: Answered) {
         let step = request.step as usize;
-        let outcome = request.outcome(right);
         self.answers[step][outcome.answer as usize] += 1;
         self.refusals[step][usize::from(outcome.refusal)] += 1;
         self.delivering[step] += u64::from(outcome.count > 0);
-        if let Answer::OrderSent | Answer::Taken | Answer::BeaconSent = outcome.answer {
-            self.add_broadcast(step, right);
-        }
         match outcome.refusal {
             BAD_RECORD => self.add_clause(request),
             // Refused before the record was judged.
             1..BAD_RECORD => {}
             _ => self.add_passed(request),
-        }
-    }
-
-    fn add_broadcast(&mut self, step: usize, right: &Ran) {
-        let post = post_of(&right.record.record);
-        self.entries[step][usize::from(post.setup.entries) - 1] += 1;
-        let told = Told::of(&post, right.buffer.numbers());
-        for (count, kind) in self.kinds[step].iter_mut().zip(KINDS) {
-            *count += u64::from((kind.is_met)(&told));
         }
     }
 
@@ -95,18 +72,18 @@ impl Tally {
             return;
         };
         self.clauses[step][clause] += 1;
-        for (count, end) in self.first_bad[step].iter_mut().zip(ENDS) {
-            let (_, is_first) = end.first_bad;
-            *count += u64::from(end.clause == clause && is_first(&post));
+        for (count, end) in self.least_bad[step].iter_mut().zip(ENDS) {
+            let (_, is_least) = end.least_bad;
+            *count += u64::from(end.clause == clause && is_least(&post));
         }
     }
 
     fn add_passed(&mut self, request: &Request) {
         let post = judged_record(request);
-        let counts = &mut self.last_good[request.step as usize];
+        let counts = &mut self.largest_good[request.step as usize];
         for (count, end) in counts.iter_mut().zip(ENDS) {
-            let (_, is_last) = end.last_good;
-            *count += u64::from(is_last(&post));
+            let (_, is_largest) = end.largest_good;
+            *count += u64::from(is_largest(&post));
         }
     }
 
@@ -114,8 +91,8 @@ impl Tally {
         self.answers.iter().flatten().sum()
     }
 
-    /// The rows of the table.
-    fn rows(&self) -> Vec<Row> {
+    /// The rows of the table: a name, and a count for each step that can have one.
+    fn rows(&self) -> Vec<(String, [Option<u64>; 4])> {
         let mut rows = Vec::new();
         for (answer, name) in ANSWERS.into_iter().skip(1) {
             let counts = POSSIBLE.map(|(step, _, answers, _)| {
@@ -136,32 +113,12 @@ impl Tally {
             });
             rows.push((format!("refused by {number}"), counts));
         }
-        rows.extend(self.broadcast_rows());
         rows.extend(self.clause_rows());
         rows.retain(|(_, counts)| *counts != [None; 4]);
         rows
     }
 
-    fn broadcast_rows(&self) -> Vec<Row> {
-        let mut rows = Vec::new();
-        for entries in 1..=usize::from(MOST_ENTRIES) {
-            let counts = POSSIBLE.map(|(step, ..)| {
-                let is_possible = step != Step::Fresh;
-                is_possible.then_some(self.entries[step as usize][entries - 1])
-            });
-            rows.push((format!("a broadcast with E = {entries}"), counts));
-        }
-        for (index, kind) in KINDS.iter().enumerate() {
-            let counts = POSSIBLE.map(|(step, ..)| {
-                let is_possible = step != Step::Fresh && (kind.is_of_orders || step != Step::Order);
-                is_possible.then_some(self.kinds[step as usize][index])
-            });
-            rows.push((kind.name.to_string(), counts));
-        }
-        rows
-    }
-
-    fn clause_rows(&self) -> Vec<Row> {
+    fn clause_rows(&self) -> Vec<(String, [Option<u64>; 4])> {
         let row = |name: String, clause: usize, count: &dyn Fn(usize) -> u64| {
             let counts = POSSIBLE.map(|(step, ..)| {
                 let is_judged = CLAUSES[clause].is_judged_at(step);
@@ -175,11 +132,11 @@ impl Tally {
             rows.push(row(name, index, &|step| self.clauses[step][index]));
         }
         for (index, end) in ENDS.iter().enumerate() {
-            let (bad, good) = (end.first_bad.0, end.last_good.0);
-            let first_bad = |step: usize| self.first_bad[step][index];
-            rows.push(row(format!("12, only: {bad}"), end.clause, &first_bad));
-            let last_good = |step: usize| self.last_good[step][index];
-            rows.push(row(format!("not 12: {good}"), end.clause, &last_good));
+            let (bad, good) = (end.least_bad.0, end.largest_good.0);
+            let least_bad = |step: usize| self.least_bad[step][index];
+            rows.push(row(format!("12, only: {bad}"), end.clause, &least_bad));
+            let largest_good = |step: usize| self.largest_good[step][index];
+            rows.push(row(format!("not 12: {good}"), end.clause, &largest_good));
         }
         rows
     }

@@ -1,7 +1,6 @@
 //! Tests that the check of demand 3 passes right libraries and notices wrong ones.
 
 mod beacons;
-mod entries;
 
 use crate::answer::{Answer, Answered};
 use crate::layout::{cells_of, CLOCK, LOG, LOGGED, ROW_CELLS, STAMPS, WORDS};
@@ -153,7 +152,7 @@ fn logs_that_are_no_longer_right_later_are_noticed() {
             let mut log: Vec<u8> = taken.collect();
             log.sort_by_key(|&place| (post.stamps[usize::from(place)], place));
             // Of one post alone, so that no other log shows it at once.
-            if lane == 7 && post.setup.dests >> lane & 1 == 1 {
+            if lane == 7 && post.dests >> lane & 1 == 1 {
                 post.log[..log.len()].copy_from_slice(&log);
                 post.logged = log.len() as u8;
                 left.row(lane).copy_from_slice(&cells_of(&post));

@@ -2,14 +2,12 @@
 //! wrong ones.
 
 mod delivery;
-mod entries;
 mod faults;
 mod lent;
 mod refusals;
 mod steps;
 
-use crate::broadcast::KINDS;
-use crate::layout::{cells_of, CLOCK, ENTRIES, KNOWN, ROW_CELLS, TABLE};
+use crate::layout::{cells_of, CLOCK, KNOWN, POSTS, ROW_CELLS, TABLE};
 use crate::lent_record::post_of;
 use crate::library::{Library, Proved};
 use crate::posts::clauses::{CLAUSES, ENDS};
@@ -76,18 +74,14 @@ fn the_plain_steps_without_a_fault_pass() {
 #[test]
 fn what_never_came_is_told() {
     let never = Tally::default().never_came();
-    // Answers, deliveries, refusals; numbers of entries and kinds of broadcasts; then
-    // clauses of 12 and ends of their ranges, of which a fresh post has four and three.
-    let broadcasts = 3 * (8 + KINDS.len()) - 1;
-    let clauses = 3 * (CLAUSES.len() + 2 * ENDS.len()) + 4 + 2 * 3;
-    assert_eq!(never.len(), 7 + 2 + 24 + broadcasts + clauses);
+    // Answers, deliveries, refusals; then clauses of 12, ends of their ranges and
+    // largest good numbers, of which a fresh post has three, one and one.
+    let clauses = 3 * (CLAUSES.len() + 2 * ENDS.len()) + 3 + 1 + 1;
+    assert_eq!(never.len(), 7 + 2 + 24 + clauses);
     for name in [
         "hear: refused by 30",
         "order: a delivery",
-        "hear: a broadcast with E = 1",
-        "beacon: lanes passed over, and no own entry",
         "fresh: 12, only: dest without a post",
-        "fresh: 12, only: entries 9",
         "hear: 12, only: log repeats",
         "beacon: 12, only: place 128",
         "order: not 12: log of 128",
@@ -118,9 +112,9 @@ fn every_clause_of_refusal_12_is_noticed() {
             assert_wrong(index, &name, Wrong::Clause(index));
         }
         for (index, end) in ENDS.iter().enumerate() {
-            let name = format!("accepts {}", end.first_bad.0);
+            let name = format!("accepts {}", end.least_bad.0);
             assert_wrong(end.clause, &name, Wrong::RangeTooLong(index));
-            let name = format!("refuses {}", end.last_good.0);
+            let name = format!("refuses {}", end.largest_good.0);
             assert_wrong(end.clause, &name, Wrong::RangeTooShort(index));
         }
     }
@@ -157,11 +151,11 @@ fn every_number_of_a_record_changes_in_some_step() {
             }
         }
     }
-    // Lane, sets and entries stay in every step; everything else of a record can change.
+    // Lane and sets stay in every step; everything else of a record can change.
     assert_eq!(changes[..CLOCK], [false; 3]);
-    assert_eq!(changes[ENTRIES..], [false; 3]);
+    assert!(!changes[POSTS]);
     let stayed = (CLOCK..KNOWN)
-        .chain(TABLE..ENTRIES)
+        .chain(TABLE..POSTS)
         .filter(|&at| !changes[at]);
     assert_eq!(stayed.collect::<Vec<usize>>(), []);
 }

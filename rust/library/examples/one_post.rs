@@ -2,7 +2,7 @@
 //!
 //!     cargo run --release -p drift-library --example one_post
 
-use drift_library::{Heard, Post, Setup, FRAME_LENGTH, MOST_ENTRIES};
+use drift_library::{Heard, Post, FRAME_LENGTH};
 
 /// What the radio has received: post 1 sends an order with word 90 at stamp 3,
 /// and has heard of the order of post 0.
@@ -10,17 +10,10 @@ const RECEIVED: [u8; FRAME_LENGTH] = [
     1, 1, 1, 1, 0, 3, 0, 90, 1, 0, 1, 1, 0, 3, 0, 0, 0, 0, 0, 0, 0, 0, 0, 0, 0, 0, 0, 0, 0, 0, 0, 0,
 ];
 
-/// Posts 0, 1 and 2: 0 and 1 are sources, 0 and 2 destinations. Bit i of a set is lane i.
-const YARD: Setup = Setup {
-    posts: 0b111,
-    sources: 0b011,
-    dests: 0b101,
-    entries: MOST_ENTRIES,
-};
-
 fn main() -> Result<(), u8> {
-    // This is post 0; its broadcasts go into the buffer.
-    let mut post = Post::fresh(0, YARD)?;
+    // Posts 0, 1 and 2: 0 and 1 are sources, 0 and 2 destinations. Bit i of a set
+    // is lane i. This is post 0; its broadcasts go into the buffer.
+    let mut post = Post::fresh(0, 0b111, 0b011, 0b101)?;
     let mut buffer = [0; FRAME_LENGTH];
 
     let sent = post.order(417, &mut buffer)?;
@@ -52,11 +45,5 @@ fn main() -> Result<(), u8> {
             order.stamp, order.word
         );
     }
-
-    // A radio with little air time: a broadcast carries one entry, the post's own.
-    let mut brief = Post::fresh(0, Setup { entries: 1, ..YARD })?;
-    brief.order(417, &mut buffer)?;
-    brief.hear(&RECEIVED, &mut buffer)?;
-    println!("with one entry: {:02X?}", &buffer[..14]);
     Ok(())
 }

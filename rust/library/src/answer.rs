@@ -21,7 +21,7 @@ pub enum LastAnswer {
 pub struct BadScript {
     /// Its first bad line, from 1; 0 for refusal 1.
     pub line: u16,
-    /// The refusal, 1 to 5 or 33.
+    /// The refusal, 1 to 5.
     pub number: u8,
 }
 
@@ -146,7 +146,6 @@ mod tests {
         for (answer, line, number) in [
             (0x0901, 0, 1),
             (0x0001_0000_0000_0903, 1, 3),
-            (0x0001_0000_0000_0921, 1, 33),
             (0x1AC9_0000_0000_0905, 6_857, 5),
         ] {
             let bad = BadScript { line, number };

@@ -7,7 +7,7 @@ mod post;
 mod state;
 
 pub use answer::{BadScript, LastAnswer};
-pub use post::{Heard, Order, Post, Sent, Setup};
+pub use post::{Heard, Order, Post, Sent};
 pub use state::{Row, State};
 
 use answer::Answer;
@@ -22,9 +22,7 @@ pub const AIR_LENGTH: usize = 65_536;
 /// Number of bytes of the output of a script.
 pub const OUTPUT_LENGTH: usize = 131_072;
 /// Number of cells, of 16 bits each, of the state behind a script.
-pub const STATE_CELLS: usize = 4_501;
-/// The most entries that a broadcast can carry: one for each lane.
-pub const MOST_ENTRIES: u8 = 8;
+pub const STATE_CELLS: usize = 4_483;
 
 /// The functions as they are in the static libraries. Every pointer goes with
 /// the number of elements that it points to, but for that to a post's record;
@@ -67,14 +65,8 @@ pub mod raw {
             state_cells: usize,
         ) -> u64;
 
-        pub fn drift_post_fresh(
-            post: *mut Post,
-            lane: u8,
-            posts: u8,
-            sources: u8,
-            dests: u8,
-            entries: u8,
-        ) -> u8;
+        pub fn drift_post_fresh(post: *mut Post, lane: u8, posts: u8, sources: u8, dests: u8)
+            -> u8;
 
         pub fn drift_post_order(
             post: *mut Post,

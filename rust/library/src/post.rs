@@ -12,19 +12,7 @@ pub(crate) const TABLE_LENGTH: usize = 136;
 /// Number of lanes.
 pub(crate) const LANES: usize = 8;
 
-/// What the posts of a yard are told of it, and line 1 of a script says. Any numbers may
-/// stand here; who takes them judges them.
-#[derive(Clone, Copy, Debug, PartialEq, Eq)]
-pub struct Setup {
-    /// The yard's posts and their roles, as sets: bit i is lane i.
-    pub posts: u8,
-    pub sources: u8,
-    pub dests: u8,
-    /// The most entries that a broadcast carries, 1 to `MOST_ENTRIES`.
-    pub entries: u8,
-}
-
-/// A post's record: `struct drift_post` of `c/drift.h`, 930 bytes without a gap.
+/// A post's record: `struct drift_post` of `c/drift.h`, 928 bytes without a gap.
 /// Any numbers may stand here: each step judges the record (12).
 #[repr(C)]
 #[derive(Clone, Copy, Debug, PartialEq, Eq)]
@@ -34,11 +22,6 @@ pub struct Post {
     pub posts: u8,
     pub sources: u8,
     pub dests: u8,
-    /// The most entries that a broadcast of this post carries, 1 to 8: its own first, if
-    /// it has one, then those of the lowest lanes. It bounds what is sent, not what is heard.
-    pub entries: u8,
-    /// Always 0; kept for a later version.
-    pub spare: u8,
     pub clock: u16,
     /// How many orders the post has sent.
     pub serial: u8,
@@ -55,7 +38,7 @@ pub struct Post {
     pub log: [u8; ORDERS],
 }
 
-const _: () = assert!(size_of::<Post>() == 930 && align_of::<Post>() == 2);
+const _: () = assert!(size_of::<Post>() == 928 && align_of::<Post>() == 2);
 
 /// What an order answers.
 #[derive(Clone, Copy, Debug, PartialEq, Eq)]
@@ -89,14 +72,12 @@ pub struct Order {
 // the length of its own slice, none of them overlap since each is borrowed, and
 // no function keeps a pointer once it has returned.
 impl Post {
-    /// All zero: no post's record, which each step refuses by 12.
+    /// All zero: a post of no yard, which each step refuses by 21.
     pub const EMPTY: Post = Post {
         lane: 0,
         posts: 0,
         sources: 0,
         dests: 0,
-        entries: 0,
-        spare: 0,
         clock: 0,
         serial: 0,
         logged: 0,
@@ -107,18 +88,10 @@ impl Post {
         log: [0; ORDERS],
     };
 
-    /// A post before its first step, or refusal 12 or 21: 12 for a lane over 7, a role
-    /// where there is no post, or entries outside 1 to 8.
-    pub fn fresh(lane: u8, setup: Setup) -> Result<Post, u8> {
-        let Setup {
-            posts,
-            sources,
-            dests,
-            entries,
-        } = setup;
+    /// A post before its first step, or refusal 12 or 21.
+    pub fn fresh(lane: u8, posts: u8, sources: u8, dests: u8) -> Result<Post, u8> {
         let mut post = Post::EMPTY;
-        let refusal =
-            unsafe { raw::drift_post_fresh(&mut post, lane, posts, sources, dests, entries) };
+        let refusal = unsafe { raw::drift_post_fresh(&mut post, lane, posts, sources, dests) };
         accepted(refusal).map(|()| post)
     }
 

@@ -1,14 +1,12 @@
 //! The state behind a script, read from its cells.
 
 use crate::post::{LANES, ORDERS, TABLE_LENGTH};
-use crate::{Post, Setup, STATE_CELLS};
+use crate::{Post, STATE_CELLS};
 
 // Where the numbers stand in a state, in cells; those before are single ones.
 const BEACONS: usize = 3;
 const FIRST: usize = BEACONS + LANES;
-const DESTS: usize = FIRST + ORDERS;
-const ENTRIES: usize = DESTS + 1;
-const ROWS: usize = ENTRIES + 1;
+const ROWS: usize = FIRST + ORDERS;
 
 // Where they stand in a row; those before are single ones.
 const LAST: usize = 6;
@@ -17,18 +15,17 @@ const TABLE: usize = KNOWN + LANES;
 const STAMPS: usize = TABLE + TABLE_LENGTH;
 const WORDS: usize = STAMPS + ORDERS;
 const LOG: usize = WORDS + ORDERS;
-const ROW_ENTRIES: usize = LOG + ORDERS;
-const ROW_SPARE: usize = ROW_ENTRIES + 1;
-const ROW_POSTS: usize = ROW_SPARE + 1;
-const ROW_CELLS: usize = ROW_POSTS + 1;
+const POSTS: usize = LOG + ORDERS;
+const ROW_CELLS: usize = POSTS + 1;
 
 const _: () = assert!(ROWS + LANES * ROW_CELLS == STATE_CELLS);
 
 /// The yard that a script leaves.
 #[derive(Clone, Debug, PartialEq, Eq)]
 pub struct State {
-    /// What line 1 of the script says.
-    pub setup: Setup,
+    /// The lanes that have a post, and those that are sources: bit i is lane i.
+    pub posts: u8,
+    pub sources: u8,
     /// How many frames are on the air, and how many of them are beacons of each
     /// lane's post, which may send 128.
     pub frames: u16,
@@ -62,22 +59,18 @@ impl State {
             *row = Row::read(cells)?;
         }
         Some(State {
-            setup: Setup {
-                posts: narrow(cells[0])?,
-                sources: narrow(cells[1])?,
-                dests: narrow(cells[DESTS])?,
-                entries: narrow(cells[ENTRIES])?,
-            },
+            posts: narrow(cells[0])?,
+            sources: narrow(cells[1])?,
             frames: cells[2],
             beacons: wide_row(&cells[BEACONS..FIRST]),
-            first: wide_row(&cells[FIRST..DESTS]),
+            first: wide_row(&cells[FIRST..ROWS]),
             rows,
         })
     }
 
     /// The posts of the yard, in rising lane order.
     pub fn yard_posts(&self) -> impl Iterator<Item = &Post> {
-        let is_present = |lane: usize| self.setup.posts >> lane & 1 == 1;
+        let is_present = |lane: usize| self.posts >> lane & 1 == 1;
         let rows = self.rows.iter().enumerate();
         rows.filter_map(move |(lane, row)| is_present(lane).then_some(&row.post))
     }
@@ -92,11 +85,9 @@ impl Row {
     fn read(cells: &[u16]) -> Option<Row> {
         let post = Post {
             lane: narrow(cells[0])?,
-            posts: narrow(cells[ROW_POSTS])?,
+            posts: narrow(cells[POSTS])?,
             sources: narrow(cells[1])?,
             dests: narrow(cells[2])?,
-            entries: narrow(cells[ROW_ENTRIES])?,
-            spare: narrow(cells[ROW_SPARE])?,
             clock: cells[3],
             serial: narrow(cells[4])?,
             logged: narrow(cells[5])?,
@@ -104,7 +95,7 @@ impl Row {
             table: wide_row(&cells[TABLE..STAMPS]),
             stamps: wide_row(&cells[STAMPS..WORDS]),
             words: wide_row(&cells[WORDS..LOG]),
-            log: narrow_row(&cells[LOG..ROW_ENTRIES])?,
+            log: narrow_row(&cells[LOG..POSTS])?,
         };
         let known = narrow_row(&cells[KNOWN..TABLE])?;
         Some(Row { post, known })
@@ -161,7 +152,7 @@ mod tests {
         let mut cells = [0; STATE_CELLS];
         cells[0] = 0b1000_0101;
         for lane in 0..8 {
-            cells[141 + 545 * lane] = lane as u16;
+            cells[139 + 543 * lane] = lane as u16;
         }
         let state = State::read(&cells).expect("a state");
         let lanes = state.yard_posts().map(|post: &Post| post.lane);

@@ -1,9 +1,9 @@
-//! The static libraries on the examples of document 01 and of requests K2 and K3, as a
-//! host would call them.
+//! The static libraries on the examples of document 01 and of request K2, as a host
+//! would call them.
 
 use drift_library::{
     frame_check, frame_read, frame_write, run_script, script_state, BadScript, Heard, LastAnswer,
-    Sent, Setup, State, AIR_LENGTH, FRAME_FIELDS, OUTPUT_LENGTH,
+    Sent, State, AIR_LENGTH, FRAME_FIELDS, OUTPUT_LENGTH,
 };
 
 const SCRIPT: &[u8] = b"(yard (0 both) (1 source) (2 dest))
@@ -53,13 +53,7 @@ fn after(script: &[u8]) -> (State, LastAnswer) {
 fn the_state_has_the_posts_and_the_last_answer() {
     let (state, answer) = after(SCRIPT);
     assert_eq!(answer, LastAnswer::Refused(25));
-    let setup = Setup {
-        posts: 0b111,
-        sources: 0b011,
-        dests: 0b101,
-        entries: 8,
-    };
-    assert_eq!(state.setup, setup);
+    assert_eq!((state.posts, state.sources), (0b111, 0b011));
     assert_eq!((state.frames, state.beacons), (5, [0; 8]));
     // The orders of lanes 0 and 1 are frames 0 and 2.
     assert_eq!((state.first[0], state.first[16]), (0, 2));
@@ -73,10 +67,9 @@ fn the_state_has_the_posts_and_the_last_answer() {
     assert_eq!(state.rows[0].known, [1, 1, 0, 0, 0, 0, 0, 0]);
     assert_eq!(state.rows[1].known, [0; 8]);
     assert_eq!(state.rows[2].known, [1, 0, 0, 0, 0, 0, 0, 0]);
-    // A lane without a post has a fresh row with the yard's sets and entries.
+    // A lane without a post has a fresh row with the yard's sets.
     let absent = state.rows[7].post;
     assert_eq!((absent.lane, absent.posts, absent.dests), (7, 0b111, 0b101));
-    assert_eq!((absent.entries, absent.spare), (8, 0));
     assert_eq!((absent.clock, absent.logged), (0, 0));
 }
 
@@ -125,29 +118,6 @@ fn each_post_has_beacons_of_its_own() {
     }
 }
 
-/// With one entry the frame that post 2 hears tells of post 1 alone: it does not log yet.
-#[test]
-fn fewer_entries_are_sent() {
-    for (item, told, logged) in [
-        ("", 2, 1),
-        (" (entries 8)", 2, 1),
-        (" (entries 2)", 2, 1),
-        (" (entries 1)", 1, 0),
-    ] {
-        let line = format!("(yard (0 both) (1 source) (2 dest){item})\n");
-        let steps = "(order 0 417)\n(hear 1 0)\n(hear 2 1)\n";
-        let script = line + steps;
-        let mut air = vec![0xA5; AIR_LENGTH];
-        let ran = script_state(script.as_bytes(), &mut air);
-        let (state, answer) = ran.expect("a good script");
-        assert_eq!(answer, LastAnswer::Heard(Heard::Taken(logged)), "{item}");
-        let entries = air[32 + 8..64].chunks_exact(3);
-        assert_eq!(entries.filter(|entry| *entry != [0, 0, 0]).count(), told);
-        let posts = state.rows.iter().map(|row| row.post);
-        assert!(posts.map(|post| post.entries).eq([state.setup.entries; 8]));
-    }
-}
-
 #[test]
 fn a_refused_script_leaves_the_air() {
     let mut air = vec![0xA5; AIR_LENGTH];
@@ -155,10 +125,6 @@ fn a_refused_script_leaves_the_air() {
         (vec![b'('; 48_001], 0, 1),
         (b"".to_vec(), 1, 3),
         (b"(roll)\n".to_vec(), 1, 3),
-        (b"(yard (entries 9))\n".to_vec(), 1, 3),
-        (b"(yard (0 both) (entries 0))\n".to_vec(), 1, 33),
-        (b"(yard (0 both) (entries 9))\n".to_vec(), 1, 33),
-        (b"(yard (0 both) (entries 09))\n".to_vec(), 1, 2),
         (b"(yard (0 both))\n(order 0 65536)\n".to_vec(), 2, 5),
         (b"(yard (0 both))\n(roll)\n(roll)".to_vec(), 3, 2),
     ] {

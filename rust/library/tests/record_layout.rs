@@ -8,22 +8,20 @@ use drift_library::Post;
 use std::mem::{align_of, offset_of, size_of};
 
 /// What `c/drift.h` says, the whole record first.
-const DOCUMENTED: [(&str, usize, usize); 15] = [
-    ("post", 0, 930),
+const DOCUMENTED: [(&str, usize, usize); 13] = [
+    ("post", 0, 928),
     ("lane", 0, 1),
     ("posts", 1, 1),
     ("sources", 2, 1),
     ("dests", 3, 1),
-    ("entries", 4, 1),
-    ("spare", 5, 1),
-    ("clock", 6, 2),
-    ("serial", 8, 1),
-    ("logged", 9, 1),
-    ("last", 10, 8),
-    ("table", 18, 272),
-    ("stamps", 290, 256),
-    ("words", 546, 256),
-    ("log", 802, 128),
+    ("clock", 4, 2),
+    ("serial", 6, 1),
+    ("logged", 7, 1),
+    ("last", 8, 8),
+    ("table", 16, 272),
+    ("stamps", 288, 256),
+    ("words", 544, 256),
+    ("log", 800, 128),
 ];
 
 /// The record and the named fields, as Rust has them. A field of `Post` that is
@@ -50,8 +48,7 @@ fn size_of_field<Field>(_: fn(&Post) -> &Field) -> usize {
 
 fn places_in_rust() -> Vec<Part> {
     places_of_post!(
-        lane, posts, sources, dests, entries, spare, clock, serial, logged, last, table, stamps,
-        words, log
+        lane, posts, sources, dests, clock, serial, logged, last, table, stamps, words, log
     )
 }
 

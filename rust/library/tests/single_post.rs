@@ -1,25 +1,15 @@
 //! Single posts on records lent to the static library, as a host would run them.
 
-use drift_library::{Heard, Order, Post, Sent, Setup, FRAME_LENGTH};
+use drift_library::{Heard, Order, Post, Sent, FRAME_LENGTH};
 
 type Frame = [u8; FRAME_LENGTH];
 
 /// Bytes that no frame has, to see whether a buffer was written.
 const UNTOUCHED: Frame = [0xA5; FRAME_LENGTH];
 
-/// Posts 0, 1 and 2 of document 01: both, source, dest; with so many entries.
-fn yard_with(entries: u8) -> [Post; 3] {
-    let setup = Setup {
-        posts: 0b111,
-        sources: 0b011,
-        dests: 0b101,
-        entries,
-    };
-    [0, 1, 2].map(|lane| Post::fresh(lane, setup).expect("a post of the yard"))
-}
-
+/// Posts 0, 1 and 2 of document 01: both, source, dest.
 fn yard() -> [Post; 3] {
-    yard_with(8)
+    [0, 1, 2].map(|lane| Post::fresh(lane, 0b111, 0b011, 0b101).expect("a post of the yard"))
 }
 
 /// A frame of these bytes, and zeros after them.
@@ -74,23 +64,6 @@ fn the_posts_of_document_01_run_singly() {
     assert_eq!(log(&both), [(1, 0, 417), (3, 1, 90)]);
     assert_eq!(log(&source), []);
     assert_eq!(log(&dest), [(1, 0, 417)]);
-}
-
-/// The own entry alone is sent, and eight are heard: post 2 waits for one frame more.
-#[test]
-fn one_entry_in_a_frame() {
-    let [mut both, mut source, mut dest] = yard_with(1);
-    let frame_0 = ordered(&mut both, 417, 1, 1);
-    let frame_1 = heard(&mut source, &frame_0, Heard::Taken(0));
-    let expected = [1, 1, 0, 1, 0, 1, 1, 161, 0, 0, 0, 0, 0, 2];
-    assert_eq!(frame_1, frame(&expected));
-    heard(&mut dest, &frame_1, Heard::Taken(0));
-    heard(&mut dest, &frame_0, Heard::Again(1));
-    assert_eq!(log(&dest), [(1, 0, 417)]);
-    // It has no entry of its own, so that of the lowest lane is sent.
-    let mut beacon = UNTOUCHED;
-    assert_eq!(dest.beacon(&mut beacon), Ok(()));
-    assert_eq!(beacon, frame(&[2, 2, 0, 0, 0, 0, 0, 0, 1, 0, 1]));
 }
 
 #[test]
@@ -164,11 +137,8 @@ fn refused_orders_and_beacons_leave_record_and_buffer() {
 fn a_bad_record_is_refused_by_12() {
     let [good, mut source, _] = yard();
     let frame = ordered(&mut source, 90, 1, 1);
-    let breaks: [fn(&mut Post); 9] = [
+    let breaks: [fn(&mut Post); 6] = [
         |post| post.lane = 8,
-        |post| post.entries = 0,
-        |post| post.entries = 9,
-        |post| post.spare = 1,
         |post| post.last[3] = 17,
         |post| post.dests |= 0b1000,
         |post| post.serial = 1,
@@ -184,36 +154,22 @@ fn a_bad_record_is_refused_by_12() {
         assert_eq!(post.beacon(&mut buffer), Err(12));
         assert_eq!((post, buffer), (bad, UNTOUCHED));
     }
-    assert_eq!(Post::EMPTY.beacon(&mut [0; FRAME_LENGTH]), Err(12));
+    assert_eq!(Post::EMPTY.beacon(&mut [0; FRAME_LENGTH]), Err(21));
 }
 
 #[test]
 fn a_fresh_post_is_made_or_refused() {
-    let setup = Setup {
-        posts: 0x41,
-        sources: 0x40,
-        dests: 0x01,
-        entries: 3,
-    };
     let expected = Post {
         lane: 6,
         posts: 0x41,
         sources: 0x40,
         dests: 0x01,
-        entries: 3,
         ..Post::EMPTY
     };
-    assert_eq!(Post::fresh(6, setup), Ok(expected));
-    assert_eq!(Post::fresh(8, setup), Err(12));
-    assert_eq!(Post::fresh(1, setup), Err(21));
-    let astray = Setup {
-        sources: 0x80,
-        ..setup
-    };
-    assert_eq!(Post::fresh(6, astray), Err(12));
-    for entries in [0, 9, 255] {
-        assert_eq!(Post::fresh(6, Setup { entries, ..setup }), Err(12));
-    }
+    assert_eq!(Post::fresh(6, 0x41, 0x40, 0x01), Ok(expected));
+    assert_eq!(Post::fresh(8, 0x41, 0x40, 0x01), Err(12));
+    assert_eq!(Post::fresh(6, 0x41, 0x80, 0x01), Err(12));
+    assert_eq!(Post::fresh(1, 0x41, 0x40, 0x01), Err(21));
 }
 
 #[test]

@@ -8,17 +8,15 @@ use drift_library::{Row, State, STATE_CELLS};
 
 /// What `c/drift_script.h` says: the parts of a state, then those of a row, each
 /// with its first cell and how many it has.
-const DOCUMENTED: [(&str, usize, usize); 25] = [
-    ("state", 0, 4_501),
+const DOCUMENTED: [(&str, usize, usize); 21] = [
+    ("state", 0, 4_483),
     ("posts", 0, 1),
     ("sources", 1, 1),
     ("frames", 2, 1),
     ("beacons", 3, 8),
     ("first", 11, 128),
-    ("dests", 139, 1),
-    ("entries", 140, 1),
-    ("rows", 141, 8 * 545),
-    ("row", 0, 545),
+    ("rows", 139, 8 * 543),
+    ("row", 0, 543),
     ("row.lane", 0, 1),
     ("row.sources", 1, 1),
     ("row.dests", 2, 1),
@@ -31,18 +29,14 @@ const DOCUMENTED: [(&str, usize, usize); 25] = [
     ("row.stamps", 158, 128),
     ("row.words", 286, 128),
     ("row.log", 414, 128),
-    ("row.entries", 542, 1),
-    ("row.spare", 543, 1),
-    ("row.posts", 544, 1),
+    ("row.posts", 542, 1),
 ];
 
 /// Puts 1 where the cell of a part goes, counted from the part's first.
 fn put(state: &mut State, name: &str, at: usize) {
     match name {
-        "posts" => state.setup.posts = 1,
-        "sources" => state.setup.sources = 1,
-        "dests" => state.setup.dests = 1,
-        "entries" => state.setup.entries = 1,
+        "posts" => state.posts = 1,
+        "sources" => state.sources = 1,
         "frames" => state.frames = 1,
         "beacons" => state.beacons[at] = 1,
         "first" => state.first[at] = 1,
@@ -66,8 +60,6 @@ fn put_in_row(row: &mut Row, name: &str, at: usize) {
         "row.stamps" => post.stamps[at] = 1,
         "row.words" => post.words[at] = 1,
         "row.log" => post.log[at] = 1,
-        "row.entries" => post.entries = 1,
-        "row.spare" => post.spare = 1,
         "row.posts" => post.posts = 1,
         _ => panic!("there is no part {name}"),
     }
@@ -91,7 +83,7 @@ fn every_cell_is_read_in_rust_where_it_stands_in_c() {
         assert_eq!(State::read(&cells), Some(expected), "cell {at}");
     };
     let mut next = 0;
-    for (name, first, count) in &DOCUMENTED[1..8] {
+    for (name, first, count) in &DOCUMENTED[1..6] {
         for at in 0..*count {
             let mut expected = empty.clone();
             put(&mut expected, name, at);
@@ -100,11 +92,11 @@ fn every_cell_is_read_in_rust_where_it_stands_in_c() {
         }
     }
     for lane in 0..8 {
-        for (name, first, count) in &DOCUMENTED[10..] {
+        for (name, first, count) in &DOCUMENTED[8..] {
             for at in 0..*count {
                 let mut expected = empty.clone();
                 put_in_row(&mut expected.rows[lane], name, at);
-                assert_read(141 + 545 * lane + first + at, expected);
+                assert_read(139 + 543 * lane + first + at, expected);
                 next += 1;
             }
         }

@@ -5,7 +5,6 @@
 
 use drift_reference::frame::{Serial, Stamp};
 use drift_reference::post::Post;
-use drift_reference::setup::Setup;
 
 pub use drift_library::Post as Record;
 
@@ -13,11 +12,9 @@ pub use drift_library::Post as Record;
 pub fn record_of(post: &Post) -> Record {
     Record {
         lane: post.lane,
-        posts: post.setup.posts,
-        sources: post.setup.sources,
-        dests: post.setup.dests,
-        entries: post.setup.entries,
-        spare: post.spare,
+        posts: post.posts,
+        sources: post.sources,
+        dests: post.dests,
         clock: post.clock.0,
         serial: post.serial.0,
         logged: post.logged,
@@ -33,13 +30,9 @@ pub fn record_of(post: &Post) -> Record {
 pub fn post_of(record: &Record) -> Post {
     Post {
         lane: record.lane,
-        setup: Setup {
-            posts: record.posts,
-            sources: record.sources,
-            dests: record.dests,
-            entries: record.entries,
-        },
-        spare: record.spare,
+        posts: record.posts,
+        sources: record.sources,
+        dests: record.dests,
         clock: Stamp(record.clock),
         serial: Serial(record.serial),
         last: record.last,

@@ -14,11 +14,7 @@ returns-2 c = rw (le-ltb _ _ c.before.if1.false, eq-eqb _ 0 c.if2.true)
 
 returns-3 : tie.Need-returns-3
 unfolding judged
-returns-3 c = rw (le-ltb _ _ c.before.before.before.before.before.if1.false, ne_eqb _ 0 c.before.before.before.before.if2.false, ← c.before.before.before.read_first.ensures.0, eq-eqb _ 0 c.before.if3.true) c.judge-later.ensures
-
-returns-4 : tie.Need-returns-4
-unfolding judged
-returns-4 c = rw (le-ltb _ _ c.before.before.before.before.if1.false, ne_eqb _ 0 c.before.before.before.if2.false, ← c.before.before.read_first.ensures.0, ne_eqb _ 0 c.if3.false)
+returns-3 c = rw (le-ltb _ _ c.before.before.if1.false, ne_eqb _ 0 c.before.if2.false) c.judge-lines.ensures
 
 pub judge_spec : {M : Type 1} → statement M
-judge_spec = tie.close (tie.spec returns returns-2 (λ c κs. tt) (λ c κs. search rules) returns-3 returns-4)
+judge_spec = tie.close (tie.spec returns returns-2 (λ c κs. search rules) returns-3)

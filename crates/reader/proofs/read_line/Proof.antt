@@ -17,13 +17,13 @@ returns-4 : tie.Need-returns-4
 returns-4 c = with_values _ _ _ (line_roll _ _ _ (sym c.before.before.byte_after.ensures ∙ c.before.match.keys4) c.roll-or-refused.ensures)
 
 returns-5 : tie.Need-returns-5
-returns-5 c = with_values _ _ _ (line_yard _ _ _ (sym c.before.before.byte_after.ensures ∙ c.before.match.keys5) c.later-yard.ensures)
+returns-5 c = with_values _ _ _ (line_yard _ _ _ (sym c.before.before.byte_after.ensures ∙ c.before.match.keys5) c.yard-or-refused.ensures)
 
 returns-6 : tie.Need-returns-6
 returns-6 c =
-    let e = c.before.before.byte_after.ensures in
-    let n = c.before.match.rest in
-    with_values _ _ _ (c.refused.ensures ∙ line_none _ _ (λ z. n.0.0.0.0.1 (e ∙ z)) (λ z. n.0.0.0.1 (e ∙ z)) (λ z. n.0.0.1 (e ∙ z)) (λ z. n.0.1 (e ∙ z)) (λ z. n.1 (e ∙ z)))
+    let e = c.before.byte_after.ensures in
+    let n = c.match.rest in
+    with_values _ _ _ (line_none _ _ (λ z. n.0.0.0.0.1 (e ∙ z)) (λ z. n.0.0.0.1 (e ∙ z)) (λ z. n.0.0.1 (e ∙ z)) (λ z. n.0.1 (e ∙ z)) (λ z. n.1 (e ∙ z)))
 
 pub read_line_spec : {M : Type 1} → statement M
-read_line_spec = tie.close (tie.spec (λ c κs. tt) (λ c κs. tt) (λ c κs. tt) (λ c κs. tt) (λ c κs. tt) (λ c κs. tt) (λ c κs. tt) returns returns-2 returns-3 returns-4 returns-5 returns-6)
+read_line_spec = tie.close (tie.spec (λ c κs. tt) (λ c κs. tt) (λ c κs. tt) (λ c κs. tt) (λ c κs. tt) (λ c κs. tt) returns returns-2 returns-3 returns-4 returns-5 returns-6)

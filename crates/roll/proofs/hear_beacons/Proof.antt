@@ -11,10 +11,10 @@ use Rattle.roll.proofs.hear_beacons.Statement.{statement}
 use Rattle.roll.proofs.hear_beacons.Tie as tie
 
 abbrev invariant-loop : tie.invariant-loop
-invariant-loop state₀ air₀ posts sources from steps₀ p₀ state air steps p = (p ≤ 8) × (length state ≡ length state₀) × (length air ≡ length air₀) × (after steps state air ≡ ran_in (here_in state₀ air₀) (posts_hear_beacons posts sources from p)) × (steps ≤ 8 * p)
+invariant-loop state₀ air₀ present sources from steps₀ p₀ state air steps p = (p ≤ 8) × (length state ≡ length state₀) × (length air ≡ length air₀) × (after steps state air ≡ ran_in (here_in state₀ air₀) (posts_hear_beacons present sources from p)) × (steps ≤ 8 * p)
 
 abbrev decreases-loop : tie.decreases-loop
-decreases-loop state₀ air₀ posts sources from steps₀ p₀ state air steps p = 8 - p
+decreases-loop state₀ air₀ present sources from steps₀ p₀ state air steps p = 8 - p
 
 loop-holds : tie.Need-loop-init invariant-loop decreases-loop
 unfolding posts_hear_beacons

@@ -12,10 +12,10 @@ use Rattle.roll.proofs.hear_lanes.Statement.{statement}
 use Rattle.roll.proofs.hear_lanes.Tie as tie
 
 abbrev invariant-loop : tie.invariant-loop
-invariant-loop state₀ air₀ posts p steps₀ q₀ state air steps q = (q ≤ 8) × (length state ≡ length state₀) × (length air ≡ length air₀) × (after steps state air ≡ ran_in (here_in state₀ air₀) (lanes_hears (yard_in state₀) p q)) × (steps ≤ 65535 * q)
+invariant-loop state₀ air₀ present p steps₀ q₀ state air steps q = (q ≤ 8) × (length state ≡ length state₀) × (length air ≡ length air₀) × (after steps state air ≡ ran_in (here_in state₀ air₀) (lanes_hears (yard_in state₀) p q)) × (steps ≤ 65535 * q)
 
 abbrev decreases-loop : tie.decreases-loop
-decreases-loop state₀ air₀ posts p steps₀ q₀ state air steps q = 8 - q
+decreases-loop state₀ air₀ present p steps₀ q₀ state air steps q = 8 - q
 
 returns : tie.Need-returns invariant-loop decreases-loop
 returns c = (not_due _ _ _ _ _ c.before.has.ensures c.if1.true, omega arith)

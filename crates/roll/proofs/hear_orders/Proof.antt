@@ -12,10 +12,10 @@ use Rattle.roll.proofs.hear_orders.Statement.{statement}
 use Rattle.roll.proofs.hear_orders.Tie as tie
 
 abbrev invariant-loop : tie.invariant-loop
-invariant-loop state₀ air₀ posts steps₀ p₀ state air steps p = (p ≤ 8) × (length state ≡ length state₀) × (length air ≡ length air₀) × (after steps state air ≡ ran_in (here_in state₀ air₀) (posts_hear (yard_in state₀) p)) × (steps ≤ 524280 * p)
+invariant-loop state₀ air₀ present steps₀ p₀ state air steps p = (p ≤ 8) × (length state ≡ length state₀) × (length air ≡ length air₀) × (after steps state air ≡ ran_in (here_in state₀ air₀) (posts_hear (yard_in state₀) p)) × (steps ≤ 524280 * p)
 
 abbrev decreases-loop : tie.decreases-loop
-decreases-loop state₀ air₀ posts steps₀ p₀ state air steps p = 8 - p
+decreases-loop state₀ air₀ present steps₀ p₀ state air steps p = 8 - p
 
 loop-holds : tie.Need-loop-init invariant-loop decreases-loop
 unfolding posts_hear

@@ -11,10 +11,10 @@ use Rattle.roll.proofs.hear_sources.Statement.{statement}
 use Rattle.roll.proofs.hear_sources.Tie as tie
 
 abbrev invariant-loop : tie.invariant-loop
-invariant-loop state₀ air₀ posts sources from p steps₀ k₀ i₀ state air steps k i = (i ≤ 8) × (length state ≡ length state₀) × (length air ≡ length air₀) × (after steps state air ≡ ran_in (here_in state₀ air₀) (beacons_heard sources from p i)) × (steps ≤ i) × (k ≡ from + sources_below sources i) × (k ≤ from + i)
+invariant-loop state₀ air₀ present sources from p steps₀ k₀ i₀ state air steps k i = (i ≤ 8) × (length state ≡ length state₀) × (length air ≡ length air₀) × (after steps state air ≡ ran_in (here_in state₀ air₀) (beacons_heard sources from p i)) × (steps ≤ i) × (k ≡ from + sources_below sources i) × (k ≤ from + i)
 
 abbrev decreases-loop : tie.decreases-loop
-decreases-loop state₀ air₀ posts sources from p steps₀ k₀ i₀ state air steps k i = 8 - i
+decreases-loop state₀ air₀ present sources from p steps₀ k₀ i₀ state air steps k i = 8 - i
 
 returns : tie.Need-returns invariant-loop decreases-loop
 returns c = (not_due _ _ _ _ _ c.before.has.ensures c.if1.true, omega arith)

@@ -8,7 +8,7 @@ put_posts_requires : tie.Need-put-posts-requires
 put_posts_requires c κs = c.before.before.before.before.before.before.before.before.run_good.auto.1.0 ∙ c.before.before.before.before.before.before.before.before.before.before.before.before.before.before.before.before.requires.1
 
 returns : tie.Need-returns
-returns c = good_posts _ _ _ _ _ _ _ c.before.before.before.before.before.before.before.before.before.before.before.before.before.before.before.before.before.before.before.requires.0 (c.before.before.before.before.before.before.before.before.before.before.before.run_good.auto.1.0 ∙ c.before.before.before.before.before.before.before.before.before.before.before.before.before.before.before.before.before.before.before.requires.1) c.before.before.before.before.before.before.before.before.before.before.before.run_good.ensures.0 c.before.before.before.before.before.before.before.before.before.before.before.run_good.ensures.1.0 c.before.before.put-posts.ensures
+returns c = good_posts _ _ _ _ _ _ _ c.before.before.before.before.before.before.before.before.before.before.before.before.before.before.before.before.before.before.before.requires.0 (c.before.before.before.before.before.before.before.before.before.before.before.run_good.auto.1.0 ∙ c.before.before.before.before.before.before.before.before.before.before.before.before.before.before.before.before.before.before.before.requires.1) c.before.before.before.before.before.before.before.before.before.before.before.run_good.ensures.0 c.before.before.before.before.before.before.before.before.before.before.before.run_good.ensures.1.0 c.before.before.put_posts.ensures
 
 pub print_good_spec : {M : Type 1} → statement M
 print_good_spec = tie.close (tie.spec (λ c κs. search rules) put_posts_requires (λ c. search rules) (λ c. search rules) (λ c. search rules) returns)

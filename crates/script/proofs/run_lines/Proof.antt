@@ -25,15 +25,15 @@ add_line : tie.Need-overflow-add-line invariant-loop decreases-loop
 add_line c = record { fits = omega (arith, c.before.before.before.before.before.before.before.before.before.loop.invariant.0, c.before.before.before.before.before.before.before.before.loop-test.true, c.before.before.before.before.before.before.before.before.before.before.before.before.before.before.before.requires.0) }
 
 loop-less : tie.Need-loop-smaller invariant-loop decreases-loop
-loop-less c = omega (arith, line_above _ _ _ c.before.before.before.before.before.before.before.before.before.before.before.before.loop-test.true c.before.before.before.before.before.before.before.before.before.before.before.read-line.ensures.0)
+loop-less c = omega (arith, line_above _ _ _ _ c.before.before.before.before.before.before.before.before.before.before.before.before.before.loop-test.true c.before.before.before.before.before.before.before.before.before.before.before.before.read-line.ensures.0 c.next_of.ensures)
 
 loop-again : tie.Need-loop-preserved invariant-loop decreases-loop
 loop-again c = (
-  omega (arith, c.before.before.before.before.before.before.before.before.before.before.before.before.before.loop.invariant.0, line_above _ _ _ c.before.before.before.before.before.before.before.before.before.before.before.before.loop-test.true c.before.before.before.before.before.before.before.before.before.before.before.read-line.ensures.0),
-  left_more _ _ _ _ _ _ _ _ _ _ _ _ _ _ _ c.before.before.before.before.before.before.before.before.before.before.before.before.loop-test.true c.before.before.before.before.before.before.before.before.before.before.before.read-line.ensures.0 c.before.before.before.before.before.before.before.before.run_step.ensures.1.0 c.before.before.before.before.before.before.before.before.run_step.ensures.1.1 c.before.before.before.before.before.before.before.before.run_step.ensures.0 c.before.before.put-refusal.ensures refl c.before.before.before.before.before.before.before.before.before.before.before.before.before.loop.invariant.1,
-  c.before.before.before.before.before.before.before.before.run_step.auto.0 ∙ c.before.before.before.before.before.before.before.before.before.before.before.before.before.loop.invariant.2,
-  c.before.before.before.before.before.before.before.before.run_step.auto.1.0 ∙ c.before.before.before.before.before.before.before.before.before.before.before.before.before.loop.invariant.3,
-  c.before.before.put-refusal.auto.0 ∙ c.before.before.before.before.before.before.before.before.before.before.before.before.before.loop.invariant.4,
+  omega (arith, c.before.before.before.before.before.before.before.before.before.before.before.before.before.before.loop.invariant.0, line_above _ _ _ _ c.before.before.before.before.before.before.before.before.before.before.before.before.before.loop-test.true c.before.before.before.before.before.before.before.before.before.before.before.before.read-line.ensures.0 c.next_of.ensures),
+  left_more _ _ _ _ _ _ _ _ _ _ _ _ _ _ _ c.before.before.before.before.before.before.before.before.before.before.before.before.before.loop-test.true c.before.before.before.before.before.before.before.before.before.before.before.before.read-line.ensures.0 c.before.before.before.before.before.before.before.before.before.run_step.ensures.1.0 c.before.before.before.before.before.before.before.before.before.run_step.ensures.1.1 c.before.before.before.before.before.before.before.before.before.run_step.ensures.0 c.before.before.before.put-refusal.ensures c.next_of.ensures c.before.before.before.before.before.before.before.before.before.before.before.before.before.before.loop.invariant.1,
+  c.before.before.before.before.before.before.before.before.before.run_step.auto.0 ∙ c.before.before.before.before.before.before.before.before.before.before.before.before.before.before.loop.invariant.2,
+  c.before.before.before.before.before.before.before.before.before.run_step.auto.1.0 ∙ c.before.before.before.before.before.before.before.before.before.before.before.before.before.before.loop.invariant.3,
+  c.before.before.before.put-refusal.auto.0 ∙ c.before.before.before.before.before.before.before.before.before.before.before.before.before.before.loop.invariant.4,
 )
 
 same_length : tie.Need-same-length invariant-loop decreases-loop
@@ -49,4 +49,4 @@ returns : tie.Need-returns invariant-loop decreases-loop
 returns c = none_left _ _ _ _ _ _ _ _ _ c.loop-test.false c.before.loop.invariant.1
 
 pub run_lines_spec : {M : Type 1} → statement M
-run_lines_spec = tie.close (tie.spec invariant-loop decreases-loop (λ c κs. tt) loop-holds (λ c κs. tt) (λ c κs. tt) add_line (λ c. search rules) (λ c κs. tt) loop-less loop-again same_length same_length_2 same_length_3 returns)
+run_lines_spec = tie.close (tie.spec invariant-loop decreases-loop (λ c κs. tt) loop-holds (λ c κs. tt) (λ c κs. tt) add_line (λ c. search rules) (λ c κs. tt) (λ c κs. tt) loop-less loop-again same_length same_length_2 same_length_3 returns)

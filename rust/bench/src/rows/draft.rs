@@ -12,10 +12,6 @@ pub const DOCUMENT_YARD: &str = "(yard (0 both) (1 source) (2 dest))\n";
 pub const FULL_YARD: &str = "(yard (0 both) (1 both) (2 both) (3 both) \
                              (4 both) (5 both) (6 both) (7 both))\n";
 
-/// The same with one entry in each broadcast.
-pub const BRIEF_YARD: &str = "(yard (0 both) (1 both) (2 both) (3 both) \
-                              (4 both) (5 both) (6 both) (7 both) (entries 1))\n";
-
 pub fn order_line(lane: usize, word: usize) -> String {
     format!("(order {lane} {word})\n")
 }

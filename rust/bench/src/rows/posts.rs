@@ -24,7 +24,7 @@ const STEPS: [(&str, Maker); 5] = [
 pub fn rows() -> Vec<Row> {
     let mut rows = Vec::new();
     for (size_name, size) in SIZES {
-        for (step, maker) in STEPS.into_iter().filter(|(step, _)| size.measures(step)) {
+        for (step, maker) in STEPS {
             let name = format!("one post, {size_name}: {step}");
             rows.push(Row::new(name, move || job(maker(size))));
         }

@@ -3,7 +3,7 @@
 //! Both scripts begin with the same settled yard, whose orders have all been
 //! taken and logged by a roll call, and with what the measured lines need.
 
-use super::draft::{Draft, BRIEF_YARD, DOCUMENT_YARD, FULL_YARD};
+use super::draft::{Draft, DOCUMENT_YARD, FULL_YARD};
 use super::{Job, Row};
 use crate::work::Work;
 
@@ -21,12 +21,7 @@ pub(super) enum Size {
     Small,
     /// Eight posts, all of them both; 64 orders.
     Large,
-    /// The same with one entry in each broadcast.
-    Brief,
 }
-
-/// The steps that broadcast, and so are measured with one entry too.
-const BROADCASTING: [&str; 3] = ["order", "hear, taken, none delivered", "beacon"];
 
 /// The script up to the measured lines, and those.
 struct Lines {
@@ -51,16 +46,13 @@ const STEPS: [(&str, Maker); 9] = [
     ("hear, refused by 26 (and printed)", own_broadcast),
 ];
 
-pub(super) const SIZES: [(&str, Size); 3] = [
-    ("small yard", Size::Small),
-    ("large yard", Size::Large),
-    ("large yard, 1 entry", Size::Brief),
-];
+pub(super) const SIZES: [(&str, Size); 2] =
+    [("small yard", Size::Small), ("large yard", Size::Large)];
 
 pub fn rows() -> Vec<Row> {
     let mut rows = Vec::new();
     for (size_name, size) in SIZES {
-        for (step, maker) in STEPS.into_iter().filter(|(step, _)| size.measures(step)) {
+        for (step, maker) in STEPS {
             let name = format!("{size_name}: {step}");
             rows.push(Row::new(name, move || maker(size).job()));
         }
@@ -105,28 +97,22 @@ impl Size {
     pub(super) fn posts(self) -> usize {
         match self {
             Size::Small => 3,
-            Size::Large | Size::Brief => 8,
+            Size::Large => 8,
         }
     }
 
     fn sources(self) -> usize {
         match self {
             Size::Small => 2,
-            Size::Large | Size::Brief => 8,
+            Size::Large => 8,
         }
-    }
-
-    /// Whether a step is measured in this yard.
-    pub(super) fn measures(self, step: &str) -> bool {
-        !matches!(self, Size::Brief) || BROADCASTING.contains(&step)
     }
 
     /// The yard in which every order has been taken and logged.
     pub(super) fn settled(self) -> Draft {
         let mut draft = match self {
             Size::Small => document_orders(),
-            Size::Large => large_orders(FULL_YARD),
-            Size::Brief => large_orders(BRIEF_YARD),
+            Size::Large => large_orders(),
         };
         draft.roll();
         draft
@@ -165,8 +151,8 @@ pub(super) fn document_orders() -> Draft {
 
 /// 64 orders: one of lane 0, which has many left for measured lines, and nine of
 /// each other lane.
-fn large_orders(yard_line: &str) -> Draft {
-    let mut draft = Draft::new(yard_line);
+fn large_orders() -> Draft {
+    let mut draft = Draft::new(FULL_YARD);
     draft.order(0, 10_000);
     for turn in 0..9 {
         for lane in 1..8 {

@@ -57,35 +57,12 @@ fn measured_lines_give_the_answers_that_their_row_names() {
 /// All orders of a settled yard are logged at all destinations.
 #[test]
 fn the_yards_are_settled() {
-    for (size, orders, dests) in [
-        (super::Size::Small, 2, 2),
-        (super::Size::Large, 64, 8),
-        (super::Size::Brief, 64, 8),
-    ] {
+    for (size, orders, dests) in [(super::Size::Small, 2, 2), (super::Size::Large, 64, 8)] {
         let mut air = vec![0; AIR_LENGTH];
         let (yard, _) = run_to_yard(size.settled().text.as_bytes(), &mut air).expect("good");
         let full = yard.posts.iter().filter(|post| post.logged == orders);
         assert_eq!(full.count(), dests);
-        assert_eq!(yard.setup.posts.count_ones() as usize, size.posts());
-        assert_eq!(yard.setup.sources.count_ones() as usize, size.sources());
-    }
-}
-
-/// With one entry the measured lines broadcast no more than that.
-#[test]
-fn the_lines_of_a_yard_with_one_entry_send_one() {
-    for row in rows() {
-        if !row.name.contains("1 entry") {
-            continue;
-        }
-        let mut air = vec![0; AIR_LENGTH];
-        let script = script(row.job().with);
-        let (yard, _) = run_to_yard(script.as_bytes(), &mut air).expect("good");
-        let frames = air.chunks_exact(32).take(yard.frames.into());
-        for frame in frames {
-            let entries = frame[8..].chunks_exact(3);
-            let told = entries.filter(|entry| *entry != [0, 0, 0]).count();
-            assert_eq!(told, 1, "{}", row.name);
-        }
+        assert_eq!(yard.present.count_ones() as usize, size.posts());
+        assert_eq!(yard.sources.count_ones() as usize, size.sources());
     }
 }

@@ -62,12 +62,6 @@ pub fn good_frame(random: &mut Random) -> Frame {
         word: 0,
         entries: std::array::from_fn(|_| good_entry(random)),
     };
-    if random.one_in(4) {
-        // Of a post that sends few entries: most lanes are passed over.
-        let told = random.byte() & random.byte();
-        let passed_over = (0..LANES).filter(|lane| told >> lane & 1 == 0);
-        passed_over.for_each(|lane| frame.entries[lane] = Entry::NONE);
-    }
     if random.between(0, 1) == 0 {
         frame.kind = ORDER;
         frame.lane = random.byte_between(0, 7);

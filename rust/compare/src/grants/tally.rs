@@ -1,8 +1,7 @@
 //! How much of request K2's promise was looked at.
 
 use crate::list_faults::Counts;
-use crate::scripts::step::{Step, YardLine};
-use drift_reference::setup::MOST_ENTRIES;
+use crate::scripts::step::Step;
 
 /// More beacon steps than all posts together may send.
 const NOISY: usize = 1_024;
@@ -10,8 +9,6 @@ const NOISY: usize = 1_024;
 #[derive(Debug, Default)]
 pub struct Tally {
     lists: u64,
-    /// Lists of yards whose broadcasts carry fewer entries.
-    brief_lists: u64,
     steps: u64,
     /// The answers to the beacon steps of the posts that are looked at.
     sent: u64,
@@ -28,9 +25,8 @@ pub struct Tally {
 
 impl Tally {
     /// Counts a list, with the refusal or 0 of each step.
-    pub fn add_list(&mut self, yard: YardLine, steps: &[Step], refusals: &[u8], lane: u32) {
+    pub fn add_list(&mut self, steps: &[Step], refusals: &[u8], lane: u32) {
         self.lists += 1;
-        self.brief_lists += u64::from(yard.setup().entries < MOST_ENTRIES);
         self.steps += steps.len() as u64;
         let mut spent_by_others = 0;
         for (&step, &refusal) in steps.iter().zip(refusals) {
@@ -70,7 +66,6 @@ impl Counts for Tally {
     fn counts(&self) -> Vec<(&'static str, u64)> {
         vec![
             ("lists of steps", self.lists),
-            ("lists with fewer entries", self.brief_lists),
             ("steps", self.steps),
             ("beacons of a post sent", self.sent),
             ("refused by 27", self.spent),

@@ -3,19 +3,6 @@
 use crate::answer::{Answer, Answered, ANSWERS};
 use crate::list_faults::Counts;
 use crate::scripts::step::Step;
-use drift_reference::frame::LANES;
-
-/// Roll calls by the number of entries, 1 to 8, that a broadcast may carry.
-const BY_ENTRIES: [&str; 8] = [
-    "roll calls with 1 entry",
-    "roll calls with 2 entries",
-    "roll calls with 3 entries",
-    "roll calls with 4 entries",
-    "roll calls with 5 entries",
-    "roll calls with 6 entries",
-    "roll calls with 7 entries",
-    "roll calls with 8 entries",
-];
 
 #[derive(Debug, Default)]
 pub struct Tally {
@@ -34,10 +21,6 @@ pub struct Tally {
     roll_call_steps: u64,
     orders_in_roll_calls: u64,
     roll_calls_without_orders: u64,
-    /// Roll calls with orders, by the number of entries.
-    by_entries: [u64; BY_ENTRIES.len()],
-    /// Frames with as many entries as they may have, which is fewer than 8.
-    full_frames: u64,
 }
 
 impl Tally {
@@ -54,16 +37,10 @@ impl Tally {
         self.shorter_logs += u64::from(0 < length && length < sent);
     }
 
-    pub fn add_roll_call(&mut self, steps: usize, orders: usize, entries: u8) {
+    pub fn add_roll_call(&mut self, steps: usize, orders: usize) {
         self.roll_call_steps += steps as u64;
         self.orders_in_roll_calls += orders as u64;
         self.roll_calls_without_orders += u64::from(orders == 0);
-        self.by_entries[usize::from(entries) - 1] += u64::from(orders > 0);
-    }
-
-    /// Counts a frame with so many entries of so many that it may have.
-    pub fn add_frame(&mut self, entries: usize, most: usize) {
-        self.full_frames += u64::from(entries == most && most < LANES);
     }
 
     fn of(&self, answer: Answer) -> u64 {
@@ -73,7 +50,7 @@ impl Tally {
 
 impl Counts for Tally {
     fn counts(&self) -> Vec<(&'static str, u64)> {
-        let mut counts = vec![
+        vec![
             ("lists of steps", self.lists),
             ("steps", self.answers.iter().sum()),
             ("orders sent", self.of(Answer::OrderSent)),
@@ -93,9 +70,6 @@ impl Counts for Tally {
             ("logs with orders", self.filled_logs),
             ("logs with some of the orders", self.shorter_logs),
             ("pairs of different logs", self.pairs),
-            ("frames full with under 8", self.full_frames),
-        ];
-        counts.extend(BY_ENTRIES.into_iter().zip(self.by_entries));
-        counts
+        ]
     }
 }

@@ -3,13 +3,11 @@
 use super::moment::{Moment, Order};
 use super::tally::Tally;
 use crate::answer::{Answer, Answered};
-use crate::broadcast::entries_in;
 use crate::library::Library;
 use crate::random::Random;
 use crate::scripts::step::{Step, YardLine};
 use crate::state::State;
-use drift_reference::frame::{FRAME_LENGTH, LANES};
-use drift_reference::setup::Setup;
+use drift_reference::frame::LANES;
 use drift_reference::yard::AIR_LENGTH;
 use std::array;
 
@@ -64,19 +62,12 @@ impl<'a> Watch<'a> {
         &self.now().air
     }
 
-    /// The fresh yard of line 1: no frame on the air yet, no beacon sent, nothing logged.
+    /// The fresh yard: no frame on the air yet, no beacon sent, nothing logged.
     pub fn start(&mut self) -> Result<(), String> {
         let now = Moment::after(self.library, &self.script, &self.first_air)?;
         let state = now.state();
-        let Setup {
-            posts,
-            sources,
-            dests,
-            entries,
-        } = self.yard.setup();
-        let is_of_line_1 = state.setup() == [posts, sources, dests, entries].map(u16::from);
         let is_unsent = (state.frames(), state.beacons()) == (0, [0; LANES]);
-        let is_fresh = is_of_line_1 && is_unsent && now.air == self.first_air;
+        let is_fresh = is_unsent && now.air == self.first_air;
         if !is_fresh || now.answered != Some(Answered::of(Answer::NoStep, 0)) {
             return Err("the yard is not fresh".into());
         }
@@ -98,7 +89,6 @@ impl<'a> Watch<'a> {
         self.tally.add_step(step, answered);
         check_answer(step, answered)?;
         self.check_growth(step, answered, &before, &now)?;
-        self.check_entries(&before, &now)?;
         if let (Step::Order { lane, word }, Answer::OrderSent) = (step, answered.answer) {
             self.note_order(Order {
                 stamp: answered.stamp,
@@ -154,23 +144,6 @@ impl<'a> Watch<'a> {
                 "new frames, beacons and orders taken are {came:?}; the steps make {right:?}"
             )),
         }
-    }
-
-    /// Each new frame has as many entries at most as line 1 says.
-    fn check_entries(&mut self, before: &Moment, now: &Moment) -> Result<(), String> {
-        let [old, new] = [before, now].map(|moment| usize::from(moment.state().frames()));
-        let most = usize::from(self.yard.setup().entries);
-        let frames = now.air.chunks_exact(FRAME_LENGTH).enumerate();
-        for (number, frame) in frames.take(new).skip(old) {
-            let entries = entries_in(frame);
-            if entries > most {
-                return Err(format!(
-                    "frame {number} has {entries} entries and not {most}"
-                ));
-            }
-            self.tally.add_frame(entries, most);
-        }
-        Ok(())
     }
 
     /// Each order is sent once, and no two have one stamp and lane.
@@ -255,8 +228,7 @@ impl<'a> Watch<'a> {
         if steps.len() != count || !now.has_yard_and_air_of(&after_single) {
             return Err("a roll call does not do what its single steps do".into());
         }
-        self.tally
-            .add_roll_call(count, self.sent.len(), yard.setup().entries);
+        self.tally.add_roll_call(count, self.sent.len());
         Ok(())
     }
 }

@@ -1,18 +1,15 @@
-//! Breaks of a record: each of a clause of refusal 12.
+//! Changes to a record: some break a clause of refusal 12, some pass it.
 
-use super::changes::CHANGES;
 use super::made_up::taken_places;
 use crate::random::Random;
-use drift_reference::frame::{Serial, LANES};
+use drift_reference::frame::{Serial, Stamp, LANES};
 use drift_reference::post::{Post, ORDERS};
 
-pub type Break = fn(&mut Random, &mut Post);
+type Break = fn(&mut Random, &mut Post);
 
 /// Each breaks one clause of 12, in the words and order of document 01.
-const BREAKS: [Break; 18] = [
+const BREAKS: [Break; 16] = [
     lane_out_of_range,
-    entries_out_of_range,
-    spare_in_use,
     own_serial_out_of_range,
     last_taken_out_of_range,
     log_length_out_of_range,
@@ -28,6 +25,19 @@ const BREAKS: [Break; 18] = [
     log_has_one_not_taken,
     log_shorter_but_not_emptied,
     log_place_unused_but_filled,
+];
+
+/// These pass 12, as far as the record did before.
+const CHANGES: [Break; 9] = [
+    any_clock,
+    any_table_values,
+    any_stamps,
+    log_in_another_order,
+    log_shorter,
+    not_in_yard,
+    no_role,
+    other_roles,
+    words_of_orders,
 ];
 
 /// One or two breaks, or changes that pass, or one of each.
@@ -55,7 +65,7 @@ fn any_lane(random: &mut Random) -> usize {
 }
 
 /// A place of an order taken; any place if there is none.
-pub fn taken_place(random: &mut Random, post: &Post) -> usize {
+fn taken_place(random: &mut Random, post: &Post) -> usize {
     let places: Vec<u8> = taken_places(post).collect();
     match places.is_empty() {
         true => any_place(random),
@@ -77,17 +87,6 @@ fn any_place(random: &mut Random) -> usize {
 
 fn lane_out_of_range(random: &mut Random, post: &mut Post) {
     post.lane = random.between_often_an_end(8, 255) as u8;
-}
-
-fn entries_out_of_range(random: &mut Random, post: &mut Post) {
-    post.setup.entries = match random.one_in(3) {
-        true => 0,
-        false => random.between_often_an_end(9, 255) as u8,
-    };
-}
-
-fn spare_in_use(random: &mut Random, post: &mut Post) {
-    post.spare = random.between_often_an_end(1, 255) as u8;
 }
 
 /// With the last taken of the own lane, so that only the range is broken.
@@ -129,16 +128,16 @@ fn log_place_out_of_range(random: &mut Random, post: &mut Post) {
 
 fn source_without_post(random: &mut Random, post: &mut Post) {
     let set = 1 << any_lane(random);
-    post.setup.sources |= set;
-    post.setup.posts &= !set;
-    post.setup.dests &= !set;
+    post.sources |= set;
+    post.posts &= !set;
+    post.dests &= !set;
 }
 
 fn dest_without_post(random: &mut Random, post: &mut Post) {
     let set = 1 << any_lane(random);
-    post.setup.dests |= set;
-    post.setup.posts &= !set;
-    post.setup.sources &= !set;
+    post.dests |= set;
+    post.posts &= !set;
+    post.sources &= !set;
 }
 
 fn own_serial_is_another(random: &mut Random, post: &mut Post) {
@@ -200,4 +199,88 @@ fn log_shorter_but_not_emptied(_: &mut Random, post: &mut Post) {
 fn log_place_unused_but_filled(random: &mut Random, post: &mut Post) {
     let index = random.between_often_an_end(post.logged.min(127).into(), 127);
     post.log[usize::from(index)] = taken_place(random, post) as u8;
+}
+
+fn any_clock(random: &mut Random, post: &mut Post) {
+    post.clock = Stamp(match random.between(0, 3) {
+        0 => 65_534,
+        1 => 65_535,
+        2 => random.between(0, 12),
+        _ => random.between(0, 65_535),
+    });
+}
+
+fn any_table_values(random: &mut Random, post: &mut Post) {
+    for _ in 0..random.between(1, 40) {
+        let place = random.between(0, post.table.len() as u16 - 1);
+        post.table[usize::from(place)] = match random.between(0, 4) {
+            0 => 0,
+            1 => random.between(65_534, 65_535),
+            2 => post.clock.0,
+            3 => random.between(1, 12),
+            _ => random.between(1, 65_535),
+        };
+    }
+}
+
+/// Equal, falling and largest stamps.
+fn any_stamps(random: &mut Random, post: &mut Post) {
+    for _ in 0..random.between(1, 8) {
+        let place = taken_place(random, post);
+        if place % 16 < usize::from(post.last[place / 16]) {
+            post.stamps[place] = match random.between(0, 3) {
+                0 => random.between(65_534, 65_535),
+                1 => post.stamps[taken_place(random, post)],
+                2 => random.between(1, 12),
+                _ => random.between(1, 65_535),
+            };
+        }
+    }
+}
+
+fn words_of_orders(random: &mut Random, post: &mut Post) {
+    let place = taken_place(random, post);
+    if post.stamps[place] != 0 {
+        post.words[place] = random.between_often_an_end(0, 65_535);
+    }
+}
+
+fn log_in_another_order(random: &mut Random, post: &mut Post) {
+    let used = u16::from(post.logged.clamp(1, 128));
+    for _ in 0..random.between(1, 6) {
+        let [one, other] = [(); 2].map(|()| random.between(0, used - 1));
+        post.log.swap(one.into(), other.into());
+    }
+}
+
+fn log_shorter(random: &mut Random, post: &mut Post) {
+    let logged = random.between(0, post.logged.min(128).into()) as u8;
+    let old = usize::from(post.logged.min(128));
+    post.log[usize::from(logged)..old].fill(0);
+    post.logged = logged;
+}
+
+/// The post leaves the yard with its roles; at times nobody is left.
+fn not_in_yard(random: &mut Random, post: &mut Post) {
+    let gone = match random.one_in(4) {
+        true => u8::MAX,
+        false => 1 << (post.lane % 8),
+    };
+    post.posts &= !gone;
+    post.sources &= !gone;
+    post.dests &= !gone;
+}
+
+fn no_role(random: &mut Random, post: &mut Post) {
+    match random.between(0, 3) {
+        0 => post.sources = 0,
+        1 => post.sources &= !(1 << (post.lane % 8)),
+        2 => post.dests = 0,
+        _ => post.dests = post.posts,
+    }
+}
+
+fn other_roles(random: &mut Random, post: &mut Post) {
+    post.sources = random.byte() & post.posts;
+    post.dests = random.byte() & post.posts;
 }

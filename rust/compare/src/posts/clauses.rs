@@ -2,22 +2,17 @@
 
 use crate::request::{Request, Step};
 use drift_reference::post::Post;
-use drift_reference::setup::{Setup, MOST_ENTRIES};
 
 pub struct Clause {
     pub name: &'static str,
-    /// Whether lane, sets and entries can break it, which is all that a fresh post has.
+    /// Whether lane and sets can break it, which is all that a fresh post has.
     pub is_of_fresh: bool,
     pub is_broken: fn(&Post) -> bool,
 }
 
-/// The clauses in the order of document 01; K3's are ranges too.
-pub const CLAUSES: [Clause; 15] = [
+/// The clauses in the order of document 01.
+pub const CLAUSES: [Clause; 13] = [
     Clause::of_fresh("lane", |post| post.lane > 7),
-    Clause::of_fresh("entries", |post| {
-        post.setup.entries == 0 || post.setup.entries > MOST_ENTRIES
-    }),
-    Clause::new("spare", |post| post.spare != 0),
     Clause::new("own serial or last taken", |post| {
         post.serial.0 > 16 || post.last.iter().any(|&last| last > 16)
     }),
@@ -26,11 +21,9 @@ pub const CLAUSES: [Clause; 15] = [
         used(post).iter().any(|&place| place > 127)
     }),
     Clause::of_fresh("source without a post", |post| {
-        post.setup.sources & !post.setup.posts != 0
+        post.sources & !post.posts != 0
     }),
-    Clause::of_fresh("dest without a post", |post| {
-        post.setup.dests & !post.setup.posts != 0
-    }),
+    Clause::of_fresh("dest without a post", |post| post.dests & !post.posts != 0),
     Clause::new("own serial is not the last taken", |post| {
         post.lane < 8 && post.serial.0 != post.last[usize::from(post.lane)]
     }),
@@ -56,50 +49,35 @@ pub const CLAUSES: [Clause; 15] = [
     }),
 ];
 
-/// An end of a clause's range: the first bad number and the last good one.
+/// Where the range of a clause ends.
 pub struct End {
     pub clause: usize,
-    pub first_bad: (&'static str, fn(&Post) -> bool),
-    pub last_good: (&'static str, fn(&Post) -> bool),
+    pub least_bad: (&'static str, fn(&Post) -> bool),
+    pub largest_good: (&'static str, fn(&Post) -> bool),
 }
 
-pub const ENDS: [End; 7] = [
+pub const ENDS: [End; 4] = [
     End {
         clause: 0,
-        first_bad: ("lane 8", |post| post.lane == 8),
-        last_good: ("lane 7", |post| post.lane == 7),
+        least_bad: ("lane 8", |post| post.lane == 8),
+        largest_good: ("lane 7", |post| post.lane == 7),
     },
     End {
         clause: 1,
-        first_bad: ("entries 0", |post| post.setup.entries == 0),
-        last_good: ("entries 1", |post| post.setup.entries == 1),
-    },
-    End {
-        clause: 1,
-        first_bad: ("entries 9", |post| post.setup.entries == 9),
-        last_good: ("entries 8", |post| post.setup.entries == 8),
+        least_bad: ("last taken 17", |post| {
+            post.last.iter().max() == Some(&17) && post.serial.0 < 18
+        }),
+        largest_good: ("last taken 16", |post| post.last.contains(&16)),
     },
     End {
         clause: 2,
-        first_bad: ("spare 1", |post| post.spare == 1),
-        last_good: ("spare 0", |post| post.spare == 0),
+        least_bad: ("log of 129", |post| post.logged == 129),
+        largest_good: ("log of 128", |post| post.logged == 128),
     },
     End {
         clause: 3,
-        first_bad: ("last taken 17", |post| {
-            post.last.iter().max() == Some(&17) && post.serial.0 < 18
-        }),
-        last_good: ("last taken 16", |post| post.last.contains(&16)),
-    },
-    End {
-        clause: 4,
-        first_bad: ("log of 129", |post| post.logged == 129),
-        last_good: ("log of 128", |post| post.logged == 128),
-    },
-    End {
-        clause: 5,
-        first_bad: ("place 128", |post| used(post).iter().max() == Some(&128)),
-        last_good: ("place 127", |post| used(post).contains(&127)),
+        least_bad: ("place 128", |post| used(post).iter().max() == Some(&128)),
+        largest_good: ("place 127", |post| used(post).contains(&127)),
     },
 ];
 
@@ -143,16 +121,12 @@ pub fn judged_record(request: &Request) -> Post {
 }
 
 /// The record of a fresh post, good or not.
-pub fn fresh_record([lane, posts, sources, dests, entries]: [u8; 5]) -> Post {
-    let setup = Setup {
+pub fn fresh_record([lane, posts, sources, dests]: [u8; 4]) -> Post {
+    Post {
+        lane,
         posts,
         sources,
         dests,
-        entries,
-    };
-    Post {
-        lane,
-        setup,
         ..Post::EMPTY
     }
 }

@@ -31,7 +31,7 @@ pub fn frame_for(random: &mut Random, post: &Post) -> [u8; FRAME_LENGTH] {
 
 /// Most often another post, at times the post itself or any lane.
 fn sender(random: &mut Random, post: &Post) -> u8 {
-    let others = post.setup.posts & !(1 << (post.lane % 8));
+    let others = post.posts & !(1 << (post.lane % 8));
     let lane = match random.between(0, 19) {
         0 => Some(post.lane % 8),
         1 => None,
@@ -45,7 +45,7 @@ fn add_order(random: &mut Random, post: &Post, frame: &mut Frame) {
     let lane = match random.between(0, 23) {
         0 => None,
         1..=2 => Some(post.lane % 8),
-        _ => lane_in(random, post.setup.sources),
+        _ => lane_in(random, post.sources),
     };
     frame.kind = ORDER;
     frame.lane = lane.unwrap_or(random.byte_between(0, 7));
@@ -64,7 +64,7 @@ fn add_order(random: &mut Random, post: &Post, frame: &mut Frame) {
 
 /// Mostly an entry that the post may hear, or none.
 fn entry(random: &mut Random, post: &Post, lane: u8) -> Entry {
-    if post.setup.sources >> lane & 1 == 0 && !random.one_in(100) || random.one_in(3) {
+    if post.sources >> lane & 1 == 0 && !random.one_in(100) || random.one_in(3) {
         return Entry::NONE;
     }
     let last = last_taken(post, lane);

@@ -9,7 +9,6 @@ use crate::request::{Request, Step};
 use crate::second::Second;
 use drift_reference::frame::{Stamp, FRAME_LENGTH, ORDER};
 use drift_reference::post::Post;
-use drift_reference::setup::Setup;
 
 type Bytes = [u8; FRAME_LENGTH];
 
@@ -34,33 +33,28 @@ pub struct History {
 
 impl History {
     pub fn new(random: &mut Random) -> History {
-        let setup = made_up::setup(random);
-        // Posts run singly need not send as many entries as each other.
-        let is_mixed = random.one_in(4);
-        let mut post = |lane| Post {
+        let posts = made_up::some_posts(random);
+        let sources = made_up::subset(random, posts);
+        let dests = made_up::subset(random, posts);
+        let post = |lane| Post {
             lane,
-            setup: Setup {
-                entries: match is_mixed {
-                    true => made_up::entries(random),
-                    false => setup.entries,
-                },
-                ..setup
-            },
+            sources,
+            dests,
+            posts,
             ..Post::EMPTY
         };
-        let lanes = (0..8).filter(|lane| setup.posts >> lane & 1 == 1);
-        let unmade = lanes.map(&mut post).collect();
+        let lanes = (0..8).filter(|lane| posts >> lane & 1 == 1);
         let start = match random.one_in(6) {
             true => Stamp(u16::MAX - random.between(0, 60)),
             false => Stamp(0),
         };
         // A post alone has nothing to hear but itself; some yards send all orders.
-        let longest = match setup.posts.is_power_of_two() {
+        let longest = match posts.is_power_of_two() {
             true => 60,
             false => random.pick(&[100, 200, 400, 1000]),
         };
         History {
-            unmade,
+            unmade: lanes.map(post).collect(),
             posts: Vec::new(),
             air: Vec::new(),
             steps_left: random.between(20, longest),
@@ -125,7 +119,7 @@ impl History {
         };
         // Most orders go to a source, if the pick finds one.
         for _ in 0..random.between(0, 8) {
-            if step == Step::Order && post.setup.sources >> post.lane & 1 == 0 {
+            if step == Step::Order && post.sources >> post.lane & 1 == 0 {
                 post = self.pick_post(random);
             }
         }

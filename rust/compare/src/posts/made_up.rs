@@ -3,7 +3,6 @@
 use crate::random::Random;
 use drift_reference::frame::{Serial, Stamp, LANES};
 use drift_reference::post::{Post, ORDERS};
-use drift_reference::setup::{Setup, MOST_ENTRIES};
 
 /// Stamps of one record come from one of these ranges, so that many are equal.
 const STAMP_RANGES: [(u16, u16); 4] = [(1, 3), (1, 12), (65_530, 65_535), (1, 65_535)];
@@ -36,40 +35,20 @@ pub fn lane_in(random: &mut Random, set: u8) -> Option<u8> {
     (left != 0).then(|| left.trailing_zeros() as u8)
 }
 
-/// The entries that a yard line tells; often none, which is the most.
-pub fn told_entries(random: &mut Random) -> Option<u8> {
-    let entries = random.byte_between(1, MOST_ENTRIES);
-    (!random.one_in(3)).then_some(entries)
-}
-
-/// How many entries a broadcast carries at most: 1 to 8, and often 8.
-pub fn entries(random: &mut Random) -> u8 {
-    told_entries(random).unwrap_or(MOST_ENTRIES)
-}
-
-/// What the posts of a yard are told of it, as 12 passes it.
-pub fn setup(random: &mut Random) -> Setup {
+/// A record that passes 12; stamps, table and the order of its log may be anything.
+pub fn record(random: &mut Random) -> Post {
     let posts = some_posts(random);
-    Setup {
+    let lane = lane_in(random, posts).unwrap_or(0);
+    let mut post = Post {
+        lane,
         posts,
         sources: subset(random, posts),
         dests: subset(random, posts),
-        entries: entries(random),
-    }
-}
-
-/// A record that passes 12; stamps, table and the order of its log may be anything.
-pub fn record(random: &mut Random) -> Post {
-    let mut setup = setup(random);
-    let lane = lane_in(random, setup.posts).unwrap_or(0);
-    if random.one_in(2) {
-        setup.dests |= 1 << lane;
-    }
-    let mut post = Post {
-        lane,
-        setup,
         ..Post::EMPTY
     };
+    if random.one_in(2) {
+        post.dests |= 1 << lane;
+    }
     let (low, high) = random.pick(&STAMP_RANGES);
     post.clock = match random.between(0, 5) {
         0 => Stamp(0),
@@ -88,7 +67,7 @@ pub fn record(random: &mut Random) -> Post {
 fn take_orders(random: &mut Random, post: &mut Post, low: u16, high: u16) {
     let full = random.one_in(16);
     for lane in 0..LANES {
-        let is_source = post.setup.sources >> lane & 1 == 1;
+        let is_source = post.sources >> lane & 1 == 1;
         let last = match random.between(0, 9) {
             _ if full => 16,
             0 if !is_source => random.byte_between(1, 3),
@@ -145,13 +124,9 @@ pub fn all_random(random: &mut Random, largest: u8) -> Post {
     let mut byte = || random.byte_between(0, largest);
     Post {
         lane: byte(),
-        setup: Setup {
-            posts: byte(),
-            sources: byte(),
-            dests: byte(),
-            entries: byte(),
-        },
-        spare: byte(),
+        posts: byte(),
+        sources: byte(),
+        dests: byte(),
         clock: Stamp(u16::from_be_bytes([byte(), byte()])),
         serial: Serial(byte()),
         last: std::array::from_fn(|_| byte()),

@@ -59,7 +59,6 @@ pub struct Difference {
 pub struct Outcome {
     pub printout: Vec<u8>,
     pub answered: Answered,
-    pub air: Vec<u8>,
     /// Nothing if script or state are refused.
     pub state: Option<Vec<u16>>,
 }
@@ -89,7 +88,6 @@ impl Case {
         Ok(Outcome {
             printout: run.printout().to_vec(),
             answered,
-            air: left.air.numbers().to_vec(),
             state: left.state().filter(|_| answered.has_run()).map(Vec::from),
         })
     }

@@ -39,9 +39,7 @@ fn change_number(random: &mut Random, script: &mut Vec<u8>) {
     };
     let is_word = script[place.start].is_ascii_alphabetic() && random.one_in(2);
     let item = match is_word {
-        true => random.pick(&[
-            "both", "source", "dest", "relay", "entries", "order", "hear",
-        ]),
+        true => random.pick(&["both", "source", "dest", "relay", "order", "hear"]),
         false => random.pick(&NUMBERS),
     };
     script.splice(place, item.bytes());

@@ -25,7 +25,7 @@ pub struct Draft {
 
 impl Draft {
     pub fn new(line: YardLine) -> Draft {
-        let yard = Yard::fresh(line.setup());
+        let yard = Yard::fresh(line.posts, line.sources, line.dests);
         let mut draft = Draft {
             text: Vec::new(),
             yard: yard.expect("a yard with posts, and roles only there"),
@@ -76,7 +76,7 @@ impl Draft {
 
     fn delivering(&self, is_wanted: fn(HearAnswer) -> bool) -> Option<Step> {
         let sight = Sight::of_yard(&self.yard, &self.air);
-        for lane in (0..8).filter(|lane| self.yard.setup.dests >> lane & 1 == 1) {
+        for lane in (0..8).filter(|lane| self.yard.dests >> lane & 1 == 1) {
             for frame in 0..sight.frames {
                 if !sight.has_news(lane, sight.frame(frame)) {
                     continue;

@@ -4,7 +4,6 @@ use super::beacon_limits::{self, BEACONS};
 use super::case::Case;
 use super::damage::{with_line_ends, LINE_ENDS};
 use super::draft::{Draft, LONGEST_SCRIPT};
-use super::entry_limits;
 use super::pick::Plan;
 use super::step::{Step, YardLine};
 use super::texts;
@@ -49,14 +48,13 @@ const BENCH: [&str; 18] = [
 const WRONG_AIRS: [usize; 7] = [0, 1, 32, 65_504, 65_535, 65_537, 131_072];
 
 const WRONG_OUTPUTS: [usize; 5] = [0, 1, 131_071, 131_073, 262_144];
-/// Also those that a state had before K2 and before K3.
-const WRONG_STATES: [usize; 9] = [0, 1, 2_250, 4_476, 4_483, 4_500, 4_502, 9_002, 70_037];
+/// Also the length that a state had with one count of beacons.
+const WRONG_STATES: [usize; 8] = [0, 1, 2_241, 4_476, 4_482, 4_484, 8_966, 70_019];
 
-/// Bad scripts, by 2, 3, 33, 4 and 5: a state of another length is judged before them.
-const BAD: [&str; 5] = [
+/// Bad scripts, by 2, 3, 4 and 5: a state of another length is judged before them.
+const BAD: [&str; 4] = [
     "(yard (0 both))\n(roll)",
     "",
-    "(yard (0 both) (entries 9))\n",
     "(yard (0 both))\n(beacon 8)\n",
     "(yard (0 both))\n(roll)\n(order 0 65536)\n",
 ];
@@ -70,7 +68,6 @@ pub fn cases() -> impl Iterator<Item = Case> {
         .chain(ends)
         .chain(texts::scripts())
         .chain(beacon_limits::scripts())
-        .chain(entry_limits::scripts())
         .chain(limits.into_iter().map(|script| script()))
         .chain(std::iter::once_with(longest_scripts).flatten());
     let cases = (0..).zip(scripts);
@@ -84,7 +81,6 @@ pub fn all_posts(sources: u8) -> YardLine {
         posts: 0xFF,
         sources,
         dests: 0xFF,
-        entries: None,
     }
 }
 

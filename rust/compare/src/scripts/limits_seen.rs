@@ -1,12 +1,20 @@
 //! What scripts must reach, each with a name for the case that none does.
 
+use super::case::{Case, Outcome};
 use super::draft::LONGEST_SCRIPT;
-use super::look::Look;
-use super::step::Step;
-use crate::broadcast::KINDS;
-use crate::state::STATE_CELLS;
+use super::printed;
+use super::step::{Step, YardLine};
+use crate::answer::Answer;
+use crate::state::{State, STATE_CELLS};
+use drift_reference::frame::LANES;
 use drift_reference::script::OUTPUT_LENGTH;
 use drift_reference::yard::AIR_LENGTH;
+
+/// A case and the right outcome of it.
+pub struct Look<'a> {
+    pub case: &'a Case,
+    pub outcome: &'a Outcome,
+}
 
 pub type Limit = (&'static str, fn(&Look) -> bool);
 
@@ -121,51 +129,6 @@ pub const BEACON_LIMITS: [Limit; 12] = [
     ),
 ];
 
-/// The limits of request K3: each number of entries, the refusals of a bad one, what
-/// is passed over, and by whom.
-pub const ENTRY_LIMITS: [Limit; 20] = [
-    ("a yard with 1 entry", |look| look.has_entries(1)),
-    ("a yard with 2 entries", |look| look.has_entries(2)),
-    ("a yard with 3 entries", |look| look.has_entries(3)),
-    ("a yard with 4 entries", |look| look.has_entries(4)),
-    ("a yard with 5 entries", |look| look.has_entries(5)),
-    ("a yard with 6 entries", |look| look.has_entries(6)),
-    ("a yard with 7 entries", |look| look.has_entries(7)),
-    ("a yard with 8 entries, written", |look| {
-        look.yard().is_some_and(|yard| yard.entries == Some(8))
-    }),
-    ("a yard with 8 entries, not written", |look| {
-        look.yard().is_some_and(|yard| yard.entries.is_none())
-    }),
-    ("0 entries, refused by 33", |look| {
-        look.is_refused_for(" (entries 0)", 33)
-    }),
-    ("9 entries, refused by 33", |look| {
-        look.is_refused_for(" (entries 9)", 33)
-    }),
-    ("99,999 entries, refused by 33", |look| {
-        look.is_refused_for(" (entries 99999)", 33)
-    }),
-    ("9 entries in a bad yard, refused by 3", |look| {
-        look.is_refused_for(" (entries 9)", 3)
-    }),
-    ("entries that are written badly, refused by 2", |look| {
-        look.is_refused_for(" (entries 09)", 2)
-    }),
-    ("entries that are not last, refused by 2", |look| {
-        look.is_refused_for(" (entries 8) (", 2)
-    }),
-    (KINDS[0].name, |look| look.has_told(KINDS[0].is_met)),
-    (KINDS[1].name, |look| look.has_told(KINDS[1].is_met)),
-    (KINDS[2].name, |look| look.has_told(KINDS[2].is_met)),
-    ("a relay that passes lanes over with 2 entries", |look| {
-        look.has_entries(2) && look.has_told(|told| told.is_of_relay && (KINDS[0].is_met)(told))
-    }),
-    ("a roll call of 100 steps with 1 entry", |look| {
-        look.has_entries(1) && look.steps().is_some_and(|steps| steps >= 100)
-    }),
-];
-
 /// Wrong lengths of what is lent.
 pub const LENGTHS: [Limit; 8] = [
     ("an air of no bytes", |look| look.case.air_length == 0),
@@ -189,3 +152,94 @@ pub const LENGTHS: [Limit; 8] = [
         look.case.state_cells != STATE_CELLS && look.is_bad()
     }),
 ];
+
+impl<'a> Look<'a> {
+    fn state(&self) -> Option<State<'a>> {
+        self.outcome.state.as_deref().map(State)
+    }
+
+    /// The yard of a script that ran.
+    fn yard(&self) -> Option<YardLine> {
+        self.state()?;
+        let first = self.case.script.split(|&byte| byte == b'\n').next()?;
+        YardLine::read(first)
+    }
+
+    /// The posts of a yard that ran, and its sources.
+    fn posts(&self) -> u8 {
+        self.yard().map_or(0, |yard| yard.posts)
+    }
+
+    fn sources(&self) -> u8 {
+        self.yard().map_or(0, |yard| yard.sources)
+    }
+
+    fn has_posts(&self, number: u32) -> bool {
+        self.posts().count_ones() == number
+    }
+
+    /// How many beacons each post has sent.
+    fn beacons(&self) -> Option<[u16; LANES]> {
+        self.state().map(State::beacons)
+    }
+
+    /// The posts that have no beacon left.
+    fn spent(&self) -> u8 {
+        let sent = self.beacons().unwrap_or_default();
+        let spent = (0..LANES).filter(|&lane| sent[lane] == 128);
+        spent.map(|lane| 1 << lane).sum()
+    }
+
+    /// Whether some of the posts have beacons left, and others have none.
+    fn has_left(&self, posts: u8) -> bool {
+        let spent = self.spent() & posts;
+        spent != 0 && spent != posts
+    }
+
+    /// Whether the last line is a beacon that was sent.
+    fn has_sent_beacon(&self) -> bool {
+        self.outcome.answered.answer == Answer::BeaconSent
+    }
+
+    /// Whether such a step was refused by 27.
+    fn refuses_by_27(&self, is_such: impl Fn(Step) -> bool) -> bool {
+        let mut refused = self.refused_steps();
+        refused.any(|(step, number)| number == 27 && is_such(step))
+    }
+
+    /// The step of the last line.
+    pub fn last_step(&self) -> Option<Step> {
+        let text = self.case.script.strip_suffix(b"\n")?;
+        Step::read(text.rsplit(|&byte| byte == b'\n').next()?)
+    }
+
+    /// The refused steps with their numbers, as they are printed.
+    pub fn refused_steps(&self) -> impl Iterator<Item = (Step, usize)> + 'a {
+        let lines: Vec<&[u8]> = self.case.script.split(|&byte| byte == b'\n').collect();
+        printed::refused(&self.outcome.printout).map(move |(line, number)| {
+            let step = Step::read(lines[line - 1]).expect("a refused line is a step");
+            (step, number)
+        })
+    }
+
+    fn has_sent_all(&self, lane: usize) -> bool {
+        let state = self.state();
+        state.is_some_and(|state| state.post(lane).serial.0 == 16)
+    }
+
+    /// The steps of the roll call that is the last line.
+    fn steps(&self) -> Option<u16> {
+        let answered = self.outcome.answered;
+        (answered.answer == Answer::RollCallRan).then_some(answered.steps_or_line)
+    }
+
+    /// The line at which the script is refused by the state.
+    fn bad_line(&self) -> Option<u16> {
+        let answered = self.outcome.answered;
+        (answered.answer == Answer::ScriptRefused).then_some(answered.steps_or_line)
+    }
+
+    fn is_bad(&self) -> bool {
+        self.outcome.printout.starts_with(b"(bad ")
+    }
+}

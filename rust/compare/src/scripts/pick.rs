@@ -1,7 +1,7 @@
 //! Picks the next step of a list by what the yard has done so far.
 
 use super::step::{Step, YardLine};
-use crate::posts::made_up::{lane_in, some_posts, subset, told_entries};
+use crate::posts::made_up::{lane_in, some_posts, subset};
 use crate::random::Random;
 use crate::state::State;
 use drift_reference::frame::{FRAME_LENGTH, LANES, ORDER};
@@ -180,7 +180,6 @@ impl Plan {
             posts,
             sources: subset(random, posts),
             dests: subset(random, posts),
-            entries: told_entries(random),
         };
         Plan::for_yard(random, yard)
     }

@@ -78,12 +78,8 @@ impl<Shows: FnMut(&[u8]) -> bool> Shrinker<Shows> {
         }
     }
 
-    /// Leaves out posts and roles of the yard line, and its entries.
+    /// Leaves out posts and roles of the yard line.
     fn remove_posts(&mut self) {
-        self.change_yard(|yard| YardLine {
-            entries: None,
-            ..yard
-        });
         for lane in 0..8 {
             let left = !(1 << lane);
             self.change_yard(|yard| yard.only(left));

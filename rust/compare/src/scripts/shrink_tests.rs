@@ -17,7 +17,6 @@ fn long_script(lines: usize) -> Vec<u8> {
         posts: 0b111,
         sources: 0b011,
         dests: 0b100,
-        entries: None,
     };
     let mut plan = Plan::for_yard(&mut random, yard);
     plan.roll_calls = 0;

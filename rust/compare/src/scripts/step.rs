@@ -1,16 +1,13 @@
 //! The lines of a script: the yard line and the steps.
 
-use drift_reference::setup::{Setup, MOST_ENTRIES};
 use std::fmt::{self, Display};
 
-/// The sets of lanes that a yard line tells, bit i being lane i, and the entries of a
-/// broadcast, 1 to 8, if it tells them.
+/// The sets of lanes that a yard line tells; bit i is lane i.
 #[derive(Clone, Copy, Debug, PartialEq, Eq)]
 pub struct YardLine {
     pub posts: u8,
     pub sources: u8,
     pub dests: u8,
-    pub entries: Option<u8>,
 }
 
 /// A step, with numbers that may be too large.
@@ -79,39 +76,24 @@ impl Display for Step {
 }
 
 impl YardLine {
-    /// What a yard line tells, if it is good and written as this one would write it.
+    /// The sets of a yard line, if it is written as this one would write it.
     pub fn read(line: &[u8]) -> Option<YardLine> {
         let text = std::str::from_utf8(line).ok()?;
         let mut yard = YardLine {
             posts: 0,
             sources: 0,
             dests: 0,
-            entries: None,
         };
         for item in text.strip_prefix("(yard (")?.split(" (") {
-            let (name, role) = item.trim_end_matches(')').split_once(' ')?;
-            if name == "entries" {
-                yard.entries = role.parse().ok();
-                continue;
-            }
-            let lane: u8 = name.parse().ok()?;
+            let (lane, role) = item.split_once(' ')?;
+            let lane: u8 = lane.parse().ok()?;
             let set = 1u8.checked_shl(lane.into())?;
+            let role = role.trim_end_matches(')');
             yard.posts |= set;
             yard.sources |= set * u8::from(matches!(role, "source" | "both"));
             yard.dests |= set * u8::from(matches!(role, "dest" | "both"));
         }
-        let is_good = yard.posts != 0 && (1..=MOST_ENTRIES).contains(&yard.setup().entries);
-        (is_good && yard.to_string() == text).then_some(yard)
-    }
-
-    /// What the line says, also where it does not say it.
-    pub fn setup(self) -> Setup {
-        Setup {
-            posts: self.posts,
-            sources: self.sources,
-            dests: self.dests,
-            entries: self.entries.unwrap_or(MOST_ENTRIES),
-        }
+        (yard.to_string() == text).then_some(yard)
     }
 
     /// The yard with the posts of a set alone.
@@ -120,7 +102,6 @@ impl YardLine {
             posts: self.posts & set,
             sources: self.sources & set,
             dests: self.dests & set,
-            ..self
         }
     }
 
@@ -140,9 +121,6 @@ impl Display for YardLine {
         write!(output, "(yard")?;
         for lane in (0..8).filter(|lane| self.posts >> lane & 1 == 1) {
             write!(output, " ({lane} {})", self.role(lane))?;
-        }
-        if let Some(entries) = self.entries {
-            write!(output, " (entries {entries})")?;
         }
         write!(output, ")")
     }
@@ -217,33 +195,15 @@ mod tests {
             posts: 0b1000_1111,
             sources: 0b1000_0001,
             dests: 0b1000_0010,
-            entries: None,
         };
         let line = "(yard (0 source) (1 dest) (2 relay) (3 relay) (7 both))";
         assert_eq!(yard.to_string(), line);
         assert_eq!(YardLine::read(line.as_bytes()), Some(yard));
-        assert_eq!(yard.setup().entries, 8);
-        for entries in 1..=8 {
-            let line = format!("(yard (7 both) (entries {entries}))");
-            let told = YardLine {
-                entries: Some(entries),
-                ..yard.only(0x80)
-            };
-            assert_eq!(told.to_string(), line);
-            assert_eq!(YardLine::read(line.as_bytes()), Some(told));
-            assert_eq!(told.setup().entries, entries);
-        }
         for bad in [
             "(yard)",
             "(yard (8 both))",
             "(yard (1 x))",
             "(yard (1 both) (0 both))",
-            "(yard (entries 3))",
-            "(yard (1 both) (entries 0))",
-            "(yard (1 both) (entries 9))",
-            "(yard (1 both) (entries 03))",
-            "(yard (entries 3) (1 both))",
-            "(yard (1 both) (entries 3) (entries 3))",
         ] {
             assert_eq!(YardLine::read(bad.as_bytes()), None, "{bad}");
         }

@@ -1,8 +1,7 @@
 //! How often each answer, refusal, size and limit of scripts came.
 
 use super::case::{Case, Outcome};
-use super::limits_seen::{Limit, BEACON_LIMITS, ENTRY_LIMITS, LENGTHS, LIMITS};
-use super::look::Look;
+use super::limits_seen::{Limit, Look, BEACON_LIMITS, LENGTHS, LIMITS};
 use super::printed;
 use super::step::STEPS;
 use crate::answer::{Answer, ANSWERS, CODES};
@@ -16,9 +15,6 @@ const POSSIBLE: [&[u8]; STEPS.len()] = [
     &[13, 27],
 ];
 
-/// The refusals of a whole script, in the order of judging.
-const BAD: [usize; 6] = [1, 2, 3, 33, 4, 5];
-
 /// The answers that carry a count delivered, each of which can be above 0.
 const DELIVERING: [Answer; 5] = [
     Answer::OrderSent,
@@ -28,7 +24,7 @@ const DELIVERING: [Answer; 5] = [
     Answer::BeaconHeard,
 ];
 
-/// One more than the highest refusal number of a step.
+/// One more than the highest refusal number of a script or a step in it.
 const REFUSALS: usize = 28;
 
 /// Upper ends of the sizes that are told apart, in bytes.
@@ -40,7 +36,7 @@ type ByStep = [[u64; REFUSALS]; STEPS.len()];
 pub struct Tally {
     sizes: [u64; SIZES.len()],
     /// Bad scripts, by refusal.
-    bad: [u64; BAD.len()],
+    bad: [u64; 6],
     /// What the state answered: by code, and of them the delivering ones.
     answers: [u64; CODES],
     delivering: [u64; CODES],
@@ -49,7 +45,6 @@ pub struct Tally {
     printed: ByStep,
     limits: [u64; LIMITS.len()],
     beacon_limits: [u64; BEACON_LIMITS.len()],
-    entry_limits: [u64; ENTRY_LIMITS.len()],
     lengths: [u64; LENGTHS.len()],
 }
 
@@ -68,14 +63,11 @@ impl Tally {
         for (step, number) in look.refused_steps() {
             self.printed[step.kind()][number] += 1;
         }
-        let bad = printed::bad(&outcome.printout);
-        for (count, number) in self.bad.iter_mut().zip(BAD) {
-            *count += u64::from(bad.is_some_and(|(_, came)| came == number));
+        if let Some((_, number)) = printed::bad(&outcome.printout) {
+            self.bad[number] += 1;
         }
         let counts = self.limits.iter_mut().chain(&mut self.beacon_limits);
-        let counts = counts
-            .chain(&mut self.entry_limits)
-            .chain(&mut self.lengths);
+        let counts = counts.chain(&mut self.lengths);
         for (count, (_, is_reached)) in counts.zip(limits()) {
             *count += u64::from(is_reached(&look));
         }
@@ -110,13 +102,12 @@ impl Tally {
 
     /// The counts of bad scripts, sizes and limits, with their names.
     fn counts_of_scripts(&self) -> Vec<(u64, String)> {
-        let bad = self.bad.into_iter().zip(BAD);
-        let bad = bad.map(|(count, number)| (count, format!("a script that is bad by {number}")));
+        let bad = self.bad.into_iter().enumerate().skip(1);
+        let bad = bad.map(|(number, count)| (count, format!("a script that is bad by {number}")));
         let sizes = self.sizes.into_iter().zip(SIZES);
         let sizes = sizes.map(|(count, end)| (count, format!("a script of up to {end} bytes")));
         let counts = self.limits.into_iter().chain(self.beacon_limits);
-        let counts = counts.chain(self.entry_limits).chain(self.lengths);
-        let limits = counts.zip(limits());
+        let limits = counts.chain(self.lengths).zip(limits());
         let limits = limits.map(|(count, (name, _))| (count, name.to_string()));
         bad.chain(sizes).chain(limits).collect()
     }
@@ -155,7 +146,7 @@ impl fmt::Display for Tally {
             };
             writeln!(output, "{name:<26}{count:>10}")?;
         }
-        for (number, count) in BAD.iter().zip(self.bad) {
+        for (number, count) in self.bad.iter().enumerate().skip(1) {
             writeln!(output, "{:<26}{count:>10}", format!("bad by {number}"))?;
         }
         writeln!(output, "{:<26}{:>10}{:>10}", "answer", "all", "deliver")?;
@@ -178,6 +169,5 @@ impl fmt::Display for Tally {
 
 /// The limits and lengths that must be reached.
 fn limits() -> impl Iterator<Item = Limit> {
-    let limits = LIMITS.into_iter().chain(BEACON_LIMITS);
-    limits.chain(ENTRY_LIMITS).chain(LENGTHS)
+    LIMITS.into_iter().chain(BEACON_LIMITS).chain(LENGTHS)
 }

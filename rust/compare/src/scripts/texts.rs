@@ -32,8 +32,8 @@ pub const NUMBERS: [&str; 27] = [
     "+1",
 ];
 
-/// Yard lines that are bad by 2, 3 or 33, and some that are good.
-pub const YARD_LINES: [&str; 66] = [
+/// Yard lines that are bad by 2 or 3, and some that are good.
+pub const YARD_LINES: [&str; 41] = [
     "(yard)",
     "(yard )",
     "(yard ())",
@@ -73,38 +73,12 @@ pub const YARD_LINES: [&str; 66] = [
     "(yard (0 both) (1 source) (2 dest) (3 relay) (4 both) (5 both) (6 both) (7 both) (8 both))",
     "(yard (0 both) (1 source) (2 dest) (3 relay) (4 both) (5 both) (6 both) (7 both))",
     "(yard (7 relay))",
-    // With entries: good ones, 33, 3 before it, 2 before both.
-    "(yard (0 both) (1 both) (entries 1))",
-    "(yard (0 both) (1 both) (entries 8))",
-    "(yard (0 both) (entries 0))",
-    "(yard (0 both) (entries 9))",
-    "(yard (0 both) (7 dest) (entries 99999))",
-    "(yard (entries 1))",
-    "(yard (entries 9))",
-    "(yard (8 both) (entries 0))",
-    "(yard (8 both) (entries 9))",
-    "(yard (1 both) (1 both) (entries 9))",
-    "(yard (1 both) (0 both) (entries 9))",
-    "(yard (0 both) (entries 09))",
-    "(yard (8 both) (entries 09))",
-    "(yard (0 both) (entries 100000))",
-    "(yard (0 both) (entries 8) (1 both))",
-    "(yard (0 both) (entries 9) (1 both))",
-    "(yard (entries 8) (0 both))",
-    "(yard (0 both) (entries 8) (entries 8))",
-    "(yard (0 both) (entries 8) (entries 9))",
-    "(yard (0 both) (entries))",
-    "(yard (0 both) (entries ))",
-    "(yard (0 both) (entries 8 8))",
-    "(yard (0 both) (entries  8))",
-    "(yard (0 both) (entry 8))",
-    "(yard (0 both) (8 entries))",
     "(order 0 1)",
     "(roll)",
 ];
 
 /// Lines that are put into a script; most are bad wherever they stand.
-pub const LINES: [&str; 30] = [
+pub const LINES: [&str; 28] = [
     "",
     " ",
     "(roll )",
@@ -132,16 +106,12 @@ pub const LINES: [&str; 30] = [
     "(beacon 0 0)",
     "(beacon  0)",
     "(yard (0 both))",
-    "(yard (0 both) (entries 9))",
-    "(entries 8)",
     "(bad 1 2)",
 ];
 
-/// Steps with a place for a number, and the yard line with some.
-const PLACES: [(&str, &str); 8] = [
+/// Steps with a place for a number, and the yard line with one.
+const PLACES: [(&str, &str); 6] = [
     ("(yard (", " both))\n(roll)\n"),
-    ("(yard (0 both) (entries ", "))\n(roll)\n"),
-    ("(yard (entries ", "))\n(roll)\n"),
     ("(yard (0 both))\n(order ", " 1)\n(roll)\n"),
     ("(yard (0 both))\n(order 0 ", ")\n(roll)\n"),
     ("(yard (0 both))\n(hear ", " 0)\n(roll)\n"),

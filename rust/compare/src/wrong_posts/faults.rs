@@ -11,9 +11,9 @@ macro_rules! faults {
             Before(u8, u8),
             /// Does not look at this clause of refusal 12.
             Clause(usize),
-            /// Takes the first bad number at this end of a range of refusal 12 for good.
+            /// Takes the least bad number of this range of refusal 12 for good.
             RangeTooLong(usize),
-            /// Takes the last good number at this end for bad.
+            /// Takes the largest good number of this range for bad.
             RangeTooShort(usize),
             $($fault,)*
         }
@@ -55,7 +55,6 @@ faults! {
     EntryForgottenOnAgain,
     EntryForgottenOnEarly,
     EntryOfNewerSerialOnly,
-    EntriesBeyondTheNumber,
     OrderRaisesTable,
     EarlyIsTaken,
     EarlyIsKept,
@@ -65,16 +64,6 @@ faults! {
     BroadcastOnAgain,
     BroadcastOfOldTable,
     FramePassedOn,
-    OwnEntryNotFirst,
-    OwnEntryNotCounted,
-    OneEntryMore,
-    OneEntryLess,
-    EmptyLanesCounted,
-    HigherLanesFirst,
-    PassedOverAsHeard,
-    PassedOverWithStamp,
-    OnlyBeaconsCut,
-    BeaconsNotCut,
     NewestLowerSerial,
     NewestHighestSerial,
     NewestOfSourcesOnly,

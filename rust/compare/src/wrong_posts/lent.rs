@@ -193,10 +193,10 @@ fn wrong_records_are_noticed() {
     assert_library_noticed("the record after an order is not stored", &unstored);
 }
 
-type Fresh = fn(&mut Record, [u8; 5]) -> u8;
+type Fresh = fn(&mut Record, [u8; 4]) -> u8;
 
 /// Wrong ways to make a fresh post.
-const WRONG_FRESH: [(&str, Fresh); 9] = [
+const WRONG_FRESH: [(&str, Fresh); 6] = [
     ("a refused fresh post empties the record", |post, asked| {
         let refusal = Second.post_fresh(post, asked);
         if refusal != 0 {
@@ -206,25 +206,7 @@ const WRONG_FRESH: [(&str, Fresh); 9] = [
     }),
     ("a refused fresh post has lane and sets", |post, asked| {
         let refusal = Second.post_fresh(post, asked);
-        [post.lane, post.posts, post.sources, post.dests, _] = asked;
-        refusal
-    }),
-    ("a refused fresh post has the entries", |post, asked| {
-        let refusal = Second.post_fresh(post, asked);
-        post.entries = asked[4];
-        refusal
-    }),
-    ("every fresh post has eight entries", |post, asked| {
-        let refusal = Second.post_fresh(post, asked);
-        if refusal == 0 {
-            post.entries = 8;
-        }
-        refusal
-    }),
-    ("a fresh post keeps the spare byte", |post, asked| {
-        let spare = post.spare;
-        let refusal = Second.post_fresh(post, asked);
-        post.spare = spare;
+        [post.lane, post.posts, post.sources, post.dests] = asked;
         refusal
     }),
     (

@@ -51,8 +51,8 @@ fn judge(wrong: Wrong, number: u8, asked: &Asked) -> Option<u8> {
             _ => false,
         },
         12 => is_bad_record(wrong, post),
-        21 => !has(post.setup.posts, post.lane),
-        22 => !has(post.setup.sources, post.lane),
+        21 => !has(post.posts, post.lane),
+        22 => !has(post.sources, post.lane),
         23 => post.serial.0 >= 16,
         24 if !is_hearing => post.clock.0 == 65_535,
         _ => match asked.frame.try_into() {
@@ -67,10 +67,10 @@ fn is_bad_record(wrong: Wrong, post: &Post) -> bool {
     let left_out = match wrong {
         Wrong::Clause(clause) => Some(clause),
         Wrong::RangeTooLong(end) => {
-            let (_, is_first_bad) = ENDS[end].first_bad;
-            is_first_bad(post).then_some(ENDS[end].clause)
+            let (_, is_least_bad) = ENDS[end].least_bad;
+            is_least_bad(post).then_some(ENDS[end].clause)
         }
-        Wrong::RangeTooShort(end) if (ENDS[end].last_good.1)(post) => return true,
+        Wrong::RangeTooShort(end) if (ENDS[end].largest_good.1)(post) => return true,
         _ => None,
     };
     let judged = (0..CLAUSES.len()).filter(|&clause| Some(clause) != left_out);
@@ -130,7 +130,7 @@ fn is_clock_spent(wrong: Wrong, post: &Post, frame: &Frame) -> bool {
         Wrong::ClockSpentOneEarly => clock.max(stamp) >= 65_534,
         _ => clock.max(stamp) == 65_535,
     };
-    let has_clock = wrong == Wrong::ClockSpentAnywhere || has(post.setup.sources, post.lane);
+    let has_clock = wrong == Wrong::ClockSpentAnywhere || has(post.sources, post.lane);
     is_moved && is_full && has_clock
 }
 
@@ -159,20 +159,20 @@ fn is_stale(wrong: Wrong, post: &Post, frame: &Frame) -> bool {
 fn is_strange(wrong: Wrong, post: &Post, frame: &Frame) -> bool {
     let sender = match wrong {
         Wrong::StrangeSenderHeard => false,
-        Wrong::SenderMustBeSource => !has(post.setup.sources, frame.sender),
-        _ => !has(post.setup.posts, frame.sender),
+        Wrong::SenderMustBeSource => !has(post.sources, frame.sender),
+        _ => !has(post.posts, frame.sender),
     };
     let order = match wrong {
         Wrong::StrangeOrderHeard => false,
-        Wrong::BeaconHasLane => !has(post.setup.sources, frame.lane),
-        Wrong::StrangeIsWithoutPost => frame.kind == ORDER && !has(post.setup.posts, frame.lane),
-        _ => frame.kind == ORDER && !has(post.setup.sources, frame.lane),
+        Wrong::BeaconHasLane => !has(post.sources, frame.lane),
+        Wrong::StrangeIsWithoutPost => frame.kind == ORDER && !has(post.posts, frame.lane),
+        _ => frame.kind == ORDER && !has(post.sources, frame.lane),
     };
     let entry = (0..).zip(&frame.entries).any(|(lane, entry)| match wrong {
         Wrong::StrangeEntryHeard => false,
-        Wrong::EntryMustHaveSerial => entry.serial.0 > 0 && !has(post.setup.sources, lane),
-        Wrong::StrangeIsWithoutPost => entry.stamp.0 > 0 && !has(post.setup.posts, lane),
-        _ => entry.stamp.0 > 0 && !has(post.setup.sources, lane),
+        Wrong::EntryMustHaveSerial => entry.serial.0 > 0 && !has(post.sources, lane),
+        Wrong::StrangeIsWithoutPost => entry.stamp.0 > 0 && !has(post.posts, lane),
+        _ => entry.stamp.0 > 0 && !has(post.sources, lane),
     });
     sender || order || entry
 }

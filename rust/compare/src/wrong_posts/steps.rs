@@ -1,7 +1,6 @@
 //! The steps once more, plainly, with a place for one fault.
 
 use super::delivery::deliver;
-use super::entries::entries;
 use super::faults::Wrong;
 use super::refusals::{has, refusal};
 use crate::answer::{Answer, Answered};
@@ -96,7 +95,7 @@ fn run(wrong: Wrong, asked: &mut Asked) -> Answered {
                 serial: Serial(0),
                 stamp: Stamp(0),
                 word: 0,
-                entries: entries(wrong, &asked.post, BEACON),
+                entries: newest(wrong, &asked.post),
             };
             broadcast(&frame, asked);
             Answered::of(Answer::BeaconSent, 0)
@@ -126,7 +125,7 @@ fn order(wrong: Wrong, asked: &mut Asked) -> Answered {
     };
     keep(wrong, post, &frame);
     post.last[usize::from(lane)] = serial.0;
-    frame.entries = entries(wrong, post, ORDER);
+    frame.entries = newest(wrong, post);
     broadcast(&frame, asked);
     let count = match wrong {
         Wrong::OrderDoesNotDeliver => 0,
@@ -142,7 +141,7 @@ fn order(wrong: Wrong, asked: &mut Asked) -> Answered {
 fn hear(wrong: Wrong, asked: &mut Asked) -> Answered {
     let frame = Frame::read(asked.frame).expect("it is not refused");
     let post = &mut asked.post;
-    let old = entries(wrong, post, ORDER);
+    let old = newest(wrong, post);
     let last = post.last[usize::from(frame.lane)];
     let answer = match frame.serial.0 {
         _ if frame.kind == BEACON => Answer::BeaconHeard,
@@ -166,8 +165,7 @@ fn hear(wrong: Wrong, asked: &mut Asked) -> Answered {
         Wrong::DeliversOnlyWhenTaken if answer != Answer::Taken => 0,
         _ => deliver(wrong, post),
     };
-    if wrong == Wrong::DeliversEarly && answer == Answer::Early && has(post.setup.dests, post.lane)
-    {
+    if wrong == Wrong::DeliversEarly && answer == Answer::Early && has(post.dests, post.lane) {
         post.log[usize::from(post.logged)] = 16 * frame.lane + frame.serial.0 - 1;
         post.logged += 1;
         count += 1;
@@ -181,18 +179,12 @@ fn raise_entries(wrong: Wrong, post: &mut Post, frame: &Frame, answer: Answer) {
         Wrong::EntryForgottenOnEarly if answer == Answer::Early => return,
         _ => {}
     }
-    let most = match wrong {
-        Wrong::EntriesBeyondTheNumber => post.setup.entries.into(),
-        _ => LANES,
-    };
-    let told = frame.entries.iter().enumerate();
-    let told = told.filter(|(_, entry)| entry.stamp.0 > 0).take(most);
-    for (lane, entry) in told {
+    for (lane, entry) in frame.entries.iter().enumerate() {
         let serial = usize::from(entry.serial.0);
         let is_older = serial < usize::from(post.last[lane]);
         let known = &mut post.table[17 * lane + serial];
         match wrong {
-            Wrong::EntryLowers => *known = entry.stamp.0,
+            Wrong::EntryLowers if entry.stamp.0 > 0 => *known = entry.stamp.0,
             Wrong::EntryOfNewerSerialOnly if is_older => {}
             _ => *known = entry.stamp.0.max(*known),
         }
@@ -216,18 +208,10 @@ fn pass_on(wrong: Wrong, asked: &mut Asked, mut frame: Frame, old: [Entry; LANES
     if wrong != Wrong::SenderStays {
         frame.sender = asked.post.lane;
     }
-    let heard = frame.entries;
     match wrong {
         Wrong::BroadcastOfOldTable => frame.entries = old,
         Wrong::FramePassedOn => {}
-        _ => frame.entries = entries(wrong, &asked.post, ORDER),
-    }
-    if wrong == Wrong::PassedOverAsHeard {
-        for (entry, heard) in frame.entries.iter_mut().zip(heard) {
-            if *entry == Entry::NONE {
-                *entry = heard;
-            }
-        }
+        _ => frame.entries = newest(wrong, &asked.post),
     }
     broadcast(&frame, asked);
 }
@@ -238,7 +222,7 @@ fn move_clock(wrong: Wrong, post: &mut Post, frame: &Frame, answer: Answer) {
         Wrong::ClockOnEarly => matches!(answer, Answer::Taken | Answer::Early),
         _ => answer == Answer::Taken,
     };
-    if !is_moved || !has(post.setup.sources, post.lane) && wrong != Wrong::ClockOfAnyPost {
+    if !is_moved || !has(post.sources, post.lane) && wrong != Wrong::ClockOfAnyPost {
         return;
     }
     let reached = match wrong {
@@ -261,4 +245,24 @@ fn move_clock(wrong: Wrong, post: &mut Post, frame: &Frame, answer: Answer) {
 
 fn broadcast(frame: &Frame, asked: &mut Asked) {
     frame.write(asked.buffer).expect("a good frame");
+}
+
+fn newest(wrong: Wrong, post: &Post) -> [Entry; LANES] {
+    std::array::from_fn(|lane| {
+        let row = &post.table[17 * lane..17 * lane + 17];
+        let known = (0..17).filter(|&serial| row[serial] > 0);
+        let picked = match wrong {
+            Wrong::NewestLowerSerial => known.rev().max_by_key(|&serial| row[serial]),
+            Wrong::NewestHighestSerial => known.max(),
+            Wrong::NewestOfSourcesOnly if !has(post.sources, lane as u8) => None,
+            Wrong::NewestSerialZeroIsNone => known
+                .filter(|&serial| serial > 0)
+                .max_by_key(|&serial| row[serial]),
+            _ => known.max_by_key(|&serial| row[serial]),
+        };
+        picked.map_or(Entry::NONE, |serial| Entry {
+            serial: Serial(serial as u8),
+            stamp: Stamp(row[serial]),
+        })
+    })
 }

@@ -1,19 +1,18 @@
 //! What a post refuses: the record by 12, the state by 21 to 30.
 
-use super::record::{Post, LAST_STAMP, ORDERS};
+use super::record::{holds, Post, LAST_STAMP, ORDERS};
 use super::{
     BAD_RECORD, BEYOND_OWN, CLOCK_SPENT, LANE_SPENT, NOT_IN_YARD, NO_SOURCE, OWN_BROADCAST,
     STAMP_NOT_ABOVE, STRANGER,
 };
 use crate::frame::{Frame, Serial, LANES, LAST_SERIAL, ORDER};
-use crate::setup::holds;
 use std::ops::BitOr;
 
 impl Post {
     /// Refusal 12. The later clauses rely on the ranges, so those come first.
     pub fn judge(&self) -> Result<(), u8> {
         let good = self.numbers_are_in_range()
-            && self.setup.roles_have_posts()
+            && self.roles_have_posts()
             && self.serial == self.last_taken(self.lane)
             && self.orders_end_at_last_taken()
             && self.log_is_good();
@@ -26,13 +25,15 @@ impl Post {
 
     fn numbers_are_in_range(&self) -> bool {
         usize::from(self.lane) < LANES
-            && self.setup.entries_are_in_range()
-            && self.spare == 0
             && self.serial <= LAST_SERIAL
             && self.last.iter().all(|&last| Serial(last) <= LAST_SERIAL)
             && usize::from(self.logged) <= ORDERS
             // 128 is a power of two: no bit from there on in any place.
             && usize::from(union(&self.log)) < ORDERS
+    }
+
+    fn roles_have_posts(&self) -> bool {
+        (self.sources | self.dests) & !self.posts == 0
     }
 
     /// Each order up to the last taken has a stamp; each place beyond is all zero.
@@ -57,7 +58,7 @@ impl Post {
 
     /// Refusal 21.
     pub(crate) fn judge_membership(&self) -> Result<(), u8> {
-        if holds(self.setup.posts, self.lane) {
+        if holds(self.posts, self.lane) {
             Ok(())
         } else {
             Err(NOT_IN_YARD)
@@ -108,11 +109,11 @@ impl Post {
 
     /// Condition of 28. A beacon has no lane, and an empty entry belongs to none.
     fn is_strange(&self, frame: &Frame) -> bool {
-        !holds(self.setup.posts, frame.sender)
-            || (frame.kind == ORDER && !holds(self.setup.sources, frame.lane))
+        !holds(self.posts, frame.sender)
+            || (frame.kind == ORDER && !holds(self.sources, frame.lane))
             || (0..)
                 .zip(&frame.entries)
-                .any(|(lane, entry)| entry.is_some() && !holds(self.setup.sources, lane))
+                .any(|(lane, entry)| entry.is_some() && !holds(self.sources, lane))
     }
 
     /// Whether an order to be taken obeys 29; before the first there is no stamp.

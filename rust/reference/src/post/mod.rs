@@ -1,12 +1,12 @@
-//! The post: document 01, "Posts, stamps, serials", "The four steps", request K3's
-//! entries of a broadcast, and refusals 12 and 21 to 30.
+//! The post: document 01, "Posts, stamps, serials", "The four steps",
+//! and refusals 12 and 21 to 30.
 
 mod deliver;
 mod judge;
 mod record;
 mod steps;
 
-pub(crate) use record::order_place;
+pub(crate) use record::{holds, order_place};
 pub use record::{Post, LAST_STAMP, ORDERS, TABLE_LENGTH};
 pub use steps::{HearAnswer, OrderAnswer};
 

@@ -1,7 +1,6 @@
 //! A post's record: where its numbers stand, and the fresh one.
 
 use crate::frame::{Entry, Serial, Stamp, LANES, LAST_SERIAL};
-use crate::setup::{holds, Setup};
 
 /// Orders that one lane can send.
 const ORDERS_PER_LANE: usize = LAST_SERIAL.0 as usize;
@@ -18,9 +17,10 @@ pub const LAST_STAMP: Stamp = Stamp(65_535);
 #[derive(Clone, Debug, PartialEq, Eq)]
 pub struct Post {
     pub lane: u8,
-    pub setup: Setup,
-    /// Always 0.
-    pub spare: u8,
+    /// The sets have bit i for lane i.
+    pub posts: u8,
+    pub sources: u8,
+    pub dests: u8,
     pub clock: Stamp,
     pub serial: Serial,
     /// The last serial taken from each lane.
@@ -39,8 +39,9 @@ impl Post {
     /// The record of all zeros.
     pub const EMPTY: Post = Post {
         lane: 0,
-        setup: Setup::EMPTY,
-        spare: 0,
+        posts: 0,
+        sources: 0,
+        dests: 0,
         clock: Stamp(0),
         serial: Serial(0),
         last: [0; LANES],
@@ -52,28 +53,30 @@ impl Post {
     };
 
     /// A post before its first step, or refusal 12 or 21.
-    pub fn fresh(lane: u8, setup: Setup) -> Result<Post, u8> {
-        let post = Post::new(lane, setup);
+    pub fn fresh(lane: u8, posts: u8, sources: u8, dests: u8) -> Result<Post, u8> {
+        let post = Post::new(lane, posts, sources, dests);
         post.judge()?;
         post.judge_membership()?;
         Ok(post)
     }
 
     /// The fresh record of any lane, not judged.
-    pub(crate) fn new(lane: u8, setup: Setup) -> Post {
+    pub(crate) fn new(lane: u8, posts: u8, sources: u8, dests: u8) -> Post {
         Post {
             lane,
-            setup,
+            posts,
+            sources,
+            dests,
             ..Post::EMPTY
         }
     }
 
     pub(super) fn is_source(&self) -> bool {
-        holds(self.setup.sources, self.lane)
+        holds(self.sources, self.lane)
     }
 
     pub(super) fn is_dest(&self) -> bool {
-        holds(self.setup.dests, self.lane)
+        holds(self.dests, self.lane)
     }
 
     pub(super) fn last_taken(&self, lane: u8) -> Serial {
@@ -112,34 +115,19 @@ impl Post {
         })
     }
 
-    /// The entries of a broadcast: the newest one of the own lane, if it has one, then
-    /// those of the other lanes that have one, rising, until E are placed.
-    pub(super) fn broadcast_entries(&self) -> [Entry; LANES] {
-        let own = usize::from(self.lane);
-        let mut entries = [Entry::NONE; LANES];
-        entries[own] = self.newest_entry(own);
-        let mut left = self.setup.entries - u8::from(entries[own].is_some());
-        for (lane, entry) in entries.iter_mut().enumerate() {
-            if lane != own && left > 0 {
-                *entry = self.newest_entry(lane);
-                left -= u8::from(entry.is_some());
+    /// For each lane its entry with the highest stamp, of equals the higher serial.
+    pub(super) fn newest_entries(&self) -> [Entry; LANES] {
+        let mut newest = [Entry::NONE; LANES];
+        for (entry, row) in newest.iter_mut().zip(self.table.chunks_exact(SERIALS)) {
+            for (serial, &stamp) in (0..).zip(row) {
+                // A lane without stamps keeps "none".
+                if stamp != 0 && Stamp(stamp) >= entry.stamp {
+                    entry.serial = Serial(serial);
+                    entry.stamp = Stamp(stamp);
+                }
             }
         }
-        entries
-    }
-
-    /// A lane's entry with the highest stamp, of equals the higher serial.
-    fn newest_entry(&self, lane: usize) -> Entry {
-        let row: &[u16; SERIALS] = &self.table.as_chunks().0[lane];
-        let newest = row.iter().copied().max().unwrap_or(0);
-        if newest == 0 {
-            return Entry::NONE;
-        }
-        let serial = row.iter().rposition(|&stamp| stamp == newest);
-        Entry {
-            serial: Serial(serial.unwrap_or(0) as u8),
-            stamp: Stamp(newest),
-        }
+        newest
     }
 
     /// The places of the orders taken, as a set. Each last serial is at most 16.
@@ -157,6 +145,11 @@ impl Post {
         let log = &self.log[..usize::from(self.logged)];
         log.iter().fold(0, |set, &place| set | 1 << place)
     }
+}
+
+/// Whether the lane, 0 to 7, is in the set.
+pub(crate) fn holds(set: u8, lane: u8) -> bool {
+    set >> lane & 1 == 1
 }
 
 /// Place of a lane and serial, 0 to 16, in the table.

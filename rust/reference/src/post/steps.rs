@@ -70,7 +70,7 @@ impl Post {
             serial,
             stamp,
             word,
-            entries: self.broadcast_entries(),
+            entries: self.newest_entries(),
         };
         frame.encode(buffer);
         let count = self.deliver();
@@ -102,7 +102,7 @@ impl Post {
     pub(crate) fn pass_on(&self, frame: &Frame, buffer: &mut [u8; FRAME_LENGTH]) {
         let broadcast = Frame {
             sender: self.lane,
-            entries: self.broadcast_entries(),
+            entries: self.newest_entries(),
             ..*frame
         };
         broadcast.encode(buffer);
@@ -117,7 +117,7 @@ impl Post {
             serial: Serial(0),
             stamp: Stamp(0),
             word: 0,
-            entries: self.broadcast_entries(),
+            entries: self.newest_entries(),
         };
         frame.encode(buffer);
     }

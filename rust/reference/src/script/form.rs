@@ -1,8 +1,7 @@
 //! One line of a script: its form and the numbers in it.
 
 use crate::frame::LANES;
-use crate::setup::{Setup, MOST_ENTRIES};
-use crate::yard::{BAD_LANE, BAD_WORD};
+use crate::yard::{Yard, BAD_LANE, BAD_WORD, BAD_YARD};
 
 /// The most digits of a number.
 const MOST_DIGITS: usize = 5;
@@ -18,8 +17,7 @@ const ROLES: [(&[u8], bool, bool); 4] = [
 /// A well-formed line. Its numbers may still be too large.
 #[derive(Clone, Copy)]
 pub(super) enum Form {
-    /// What a yard line says; no posts if its lanes are bad, for both are 3.
-    Yard(Setup),
+    Yard(YardForm),
     Step(Step),
 }
 
@@ -30,6 +28,15 @@ pub(super) enum Step {
     Hear { lane: usize, frame: usize },
     Beacon { lane: usize },
     Roll,
+}
+
+/// The posts and roles of a yard line, unless its lanes are bad.
+#[derive(Clone, Copy)]
+pub(super) struct YardForm {
+    present: u8,
+    sources: u8,
+    dests: u8,
+    lanes_are_good: bool,
 }
 
 impl Form {
@@ -77,34 +84,48 @@ impl Step {
     }
 }
 
+impl YardForm {
+    /// The fresh yard, or refusal 3.
+    pub(super) fn yard(self) -> Result<Yard, u8> {
+        if !self.lanes_are_good {
+            return Err(BAD_YARD);
+        }
+        Yard::fresh(self.present, self.sources, self.dests)
+    }
+
+    /// A further post; its lane must be at most 7 and above those before.
+    fn add(&mut self, lane: usize, source: bool, dest: bool) {
+        if lane >= LANES || self.present >> lane != 0 {
+            self.lanes_are_good = false;
+            return;
+        }
+        self.present |= 1 << lane;
+        self.sources |= u8::from(source) << lane;
+        self.dests |= u8::from(dest) << lane;
+    }
+}
+
 /// What is left of a form's items, each of them after one space.
 struct Items<'a>(&'a [u8]);
 
 impl Items<'_> {
-    /// The posts of a yard, and after them the entries or nothing.
-    fn yard(&mut self) -> Option<Setup> {
-        let mut setup = Setup {
-            entries: MOST_ENTRIES,
-            ..Setup::EMPTY
+    /// The posts of a yard, up to the end.
+    fn yard(&mut self) -> Option<YardForm> {
+        let mut yard = YardForm {
+            present: 0,
+            sources: 0,
+            dests: 0,
+            lanes_are_good: true,
         };
-        let mut lanes_are_good = true;
-        while self.text(b" (").is_some() {
-            if self.text(b"entries ").is_some() {
-                // A number over 255 is 255, which is too large as well.
-                setup.entries = self.digits()?.min(255) as u8;
-                self.text(b")")?;
-                break;
-            }
+        while !self.0.is_empty() {
+            self.text(b" (")?;
             let lane = self.digits()?;
             self.text(b" ")?;
             let (source, dest) = self.role()?;
             self.text(b")")?;
-            lanes_are_good &= add_post(&mut setup, lane, source, dest);
+            yard.add(lane, source, dest);
         }
-        if !lanes_are_good {
-            setup.posts = 0;
-        }
-        self.0.is_empty().then_some(setup)
+        Some(yard)
     }
 
     /// Whether the role that comes next is source and dest.
@@ -139,15 +160,4 @@ impl Items<'_> {
         self.0 = self.0.strip_prefix(text)?;
         Some(())
     }
-}
-
-/// Adds a post, unless its lane is over 7 or not above those before; tells which.
-fn add_post(setup: &mut Setup, lane: usize, source: bool, dest: bool) -> bool {
-    if lane >= LANES || setup.posts >> lane != 0 {
-        return false;
-    }
-    setup.posts |= 1 << lane;
-    setup.sources |= u8::from(source) << lane;
-    setup.dests |= u8::from(dest) << lane;
-    true
 }

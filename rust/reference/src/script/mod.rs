@@ -1,5 +1,4 @@
-//! Scripts and printouts: document 01, "Script and printout", request K3's entries of
-//! a yard, and refusals 1 to 5 and 33.
+//! Scripts and printouts: document 01, "Script and printout", and refusals 1 to 5.
 
 mod form;
 mod parse;

@@ -4,7 +4,7 @@ use super::form::{Form, Step};
 use super::{Bad, BAD_FORM, SCRIPT_LIMIT, SCRIPT_TOO_LONG};
 use crate::yard::{Yard, BAD_YARD};
 
-/// A script that passed refusals 1 to 5 and 33.
+/// A script that passed refusals 1 to 5.
 pub(super) struct Script {
     /// The fresh yard of line 1.
     pub(super) yard: Yard,
@@ -24,18 +24,18 @@ pub(super) fn parse(script: &[u8]) -> Result<Script, Bad> {
     // Empty text has no yard form on line 1.
     let yard = lines.next().ok_or(BAD_YARD).and_then(read_yard);
     let yard = yard.map_err(|number| Bad { line: 1, number })?;
-    let mut steps = Vec::new();
-    for (line, text) in (2..).zip(lines) {
+    let steps = (2..).zip(lines).map(|(line, text)| {
         let step = read_step(text);
-        steps.push(step.map_err(|number| Bad { line, number })?);
-    }
+        step.map_err(|number| Bad { line, number })
+    });
+    let steps = steps.collect::<Result<_, _>>()?;
     Ok(Script { yard, steps })
 }
 
-/// Line 1: refusals 2, 3 and 33.
+/// Line 1: refusals 2 and 3.
 fn read_yard(line: &[u8]) -> Result<Yard, u8> {
     match read_form(line)? {
-        Form::Yard(setup) => Yard::fresh(setup),
+        Form::Yard(form) => form.yard(),
         Form::Step(_) => Err(BAD_YARD),
     }
 }

@@ -1,8 +1,7 @@
 //! The printout, written to the beginning of lent bytes.
 
 use super::{Bad, OUTPUT_LENGTH};
-use crate::post::Post;
-use crate::setup::holds;
+use crate::post::{holds, Post};
 use crate::text::put_before;
 use crate::yard::Yard;
 
@@ -21,7 +20,7 @@ impl<'a> Printout<'a> {
         self.length
     }
 
-    /// The only line of a script refused by 1 to 5 or 33.
+    /// The only line of a script refused by 1 to 5.
     pub(super) fn bad(&mut self, bad: Bad) {
         self.line_and_number("(bad ", bad.line, bad.number);
     }
@@ -34,7 +33,7 @@ impl<'a> Printout<'a> {
     /// A line for each post, lanes rising.
     pub(super) fn posts(&mut self, yard: &Yard) {
         for post in &yard.posts {
-            if holds(yard.setup.posts, post.lane) {
+            if holds(yard.present, post.lane) {
                 self.post(post);
             }
         }

@@ -6,7 +6,6 @@ mod steps;
 
 use crate::frame::LANES;
 use crate::post::{Post, BAD_RECORD, ORDERS};
-use crate::setup::Setup;
 
 pub use air::AIR_LENGTH;
 
@@ -22,8 +21,6 @@ pub const BAD_AIR: u8 = 13;
 pub const NOT_ON_AIR: u8 = 25;
 /// Refusal 27: beacons spent.
 pub const BEACONS_SPENT: u8 = 27;
-/// Refusal 33: entries outside 1 to 8.
-pub const BAD_ENTRIES: u8 = 33;
 
 /// Beacons that each post may send in a yard; one run singly has no limit.
 pub const BEACONS_ALLOWED: u16 = 128;
@@ -31,7 +28,10 @@ pub const BEACONS_ALLOWED: u16 = 128;
 /// A yard. The steps keep it such that every record would pass refusal 12.
 #[derive(Clone, Debug, PartialEq, Eq)]
 pub struct Yard {
-    pub setup: Setup,
+    /// The sets have bit i for lane i.
+    pub present: u8,
+    pub sources: u8,
+    pub dests: u8,
     /// A record for each lane; that of a lane without a post never changes.
     pub posts: [Post; LANES],
     /// How many frames have been broadcast.
@@ -43,21 +43,19 @@ pub struct Yard {
 }
 
 impl Yard {
-    /// A yard before its first step, or refusal 3, 33 or 12.
-    pub fn fresh(setup: Setup) -> Result<Yard, u8> {
-        if setup.posts == 0 {
+    /// A yard before its first step, or refusal 3 or 12.
+    pub fn fresh(present: u8, sources: u8, dests: u8) -> Result<Yard, u8> {
+        if present == 0 {
             return Err(BAD_YARD);
         }
-        // 33 counts with 1 to 5, so it comes before 12.
-        if !setup.entries_are_in_range() {
-            return Err(BAD_ENTRIES);
-        }
-        if !setup.roles_have_posts() {
+        if (sources | dests) & !present != 0 {
             return Err(BAD_RECORD);
         }
         Ok(Yard {
-            setup,
-            posts: std::array::from_fn(|lane| Post::new(lane as u8, setup)),
+            present,
+            sources,
+            dests,
+            posts: std::array::from_fn(|lane| Post::new(lane as u8, present, sources, dests)),
             frames: 0,
             beacons: [0; LANES],
             first: [0; ORDERS],

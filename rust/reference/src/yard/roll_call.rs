@@ -3,21 +3,20 @@
 use super::air::{whole_air, Air};
 use super::Yard;
 use crate::frame::{Serial, LANES};
-use crate::post::order_place;
-use crate::setup::holds;
+use crate::post::{holds, order_place};
 
 impl Yard {
     /// Runs a roll call; gives the number of single steps. Refused by 13, and by
     /// 27 if some source has no beacon left.
     pub fn roll_call(&mut self, air: &mut [u8]) -> Result<u16, u8> {
         let air = whole_air(air)?;
-        let sources = self.setup.sources.count_ones() as u16;
-        for lane in lanes(self.setup.sources) {
+        let sources = self.sources.count_ones() as u16;
+        for lane in lanes(self.sources) {
             self.judge_beacons(lane.into())?;
         }
         let orders_heard = self.hear_first_frames(air);
         let first_beacon = usize::from(self.frames);
-        for lane in lanes(self.setup.sources) {
+        for lane in lanes(self.sources) {
             self.send_beacon(air, lane.into());
         }
         let beacons_heard = self.hear_beacons(air, first_beacon);
@@ -27,8 +26,8 @@ impl Yard {
     /// Each post hears the first frame of every order of the other lanes.
     fn hear_first_frames(&mut self, air: &mut Air) -> u16 {
         let mut heard = 0;
-        for lane in lanes(self.setup.posts) {
-            for other in lanes(self.setup.sources).filter(|&other| other != lane) {
+        for lane in lanes(self.present) {
+            for other in lanes(self.sources).filter(|&other| other != lane) {
                 for serial in 1..=self.posts[usize::from(other)].serial.0 {
                     let frame = self.first[order_place(other, Serial(serial))];
                     self.roll_hear(air, lane, frame.into());
@@ -42,8 +41,8 @@ impl Yard {
     /// Each post hears the sources' beacons, numbered from `first`, except its own.
     fn hear_beacons(&mut self, air: &mut Air, first: usize) -> u16 {
         let mut heard = 0;
-        for lane in lanes(self.setup.posts) {
-            for (frame, other) in (first..).zip(lanes(self.setup.sources)) {
+        for lane in lanes(self.present) {
+            for (frame, other) in (first..).zip(lanes(self.sources)) {
                 if other != lane {
                     self.roll_hear(air, lane, frame);
                     heard += 1;

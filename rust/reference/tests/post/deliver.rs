@@ -1,13 +1,13 @@
 //! Delivery from records that need not come from a yard.
 
-use super::{beacon_frame, fresh, hear, logged, order};
+use super::{beacon_frame, hear, logged, order};
 use drift_reference::frame::Stamp;
 use drift_reference::post::HearAnswer::{Again, Beacon, Early, Taken};
 use drift_reference::post::Post;
 
 /// A destination at lane 7 of a yard with sources 0 and 1 that has taken the orders.
 fn destination(orders: &[(u8, u16)]) -> Post {
-    let mut post = fresh(7, 0x83, 0x03, 0x80).expect("lane 7 is in the yard");
+    let mut post = Post::fresh(7, 0x83, 0x03, 0x80).expect("lane 7 is in the yard");
     for &(lane, stamp) in orders {
         take(&mut post, lane, stamp);
     }
@@ -108,7 +108,7 @@ fn the_log_keeps_its_order_and_grows_at_its_end() {
 #[test]
 fn without_a_source_every_order_is_ready() {
     let mut post = destination(&[(3, 65_535), (1, 65_535)]);
-    post.setup.sources = 0;
+    post.sources = 0;
     assert_eq!(delivered(&mut post), [(65_535, 1, 101), (65_535, 3, 301)]);
 }
 
@@ -126,18 +126,18 @@ fn posts_that_are_no_destinations_deliver_nothing() {
     let mut post = destination(&[(0, 1), (0, 2)]);
     know(&mut post, 0, 2, 9);
     know(&mut post, 1, 0, 9);
-    post.setup.dests = 0x03;
+    post.dests = 0x03;
     (post.log[0], post.logged) = (1, 1);
     assert_eq!(delivered(&mut post), []);
-    post.setup.sources |= 0x80;
-    post.setup.posts |= 0x80;
+    post.sources |= 0x80;
+    post.posts |= 0x80;
     assert_eq!(order(&mut post, 1).0.count, 0);
     assert_eq!(logged(&post), [(2, 0, 2)]);
 }
 
 #[test]
 fn all_128_orders_can_be_delivered_at_once() {
-    let mut post = fresh(3, 0xFF, 0xFF, 0x08).expect("lane 3 is in the yard");
+    let mut post = Post::fresh(3, 0xFF, 0xFF, 0x08).expect("lane 3 is in the yard");
     for serial in 1..=16 {
         for lane in 0..8 {
             take(&mut post, lane, 17 - serial);

@@ -1,9 +1,6 @@
 //! What a hearing and a broadcast do to clock, table and buffer.
 
-use super::{
-    beacon, beacon_frame, fresh, hear, order, order_frame, post_of_yard, post_with_both_orders,
-    setup,
-};
+use super::{beacon, beacon_frame, hear, order, order_frame, post_of_yard, post_with_both_orders};
 use drift_reference::frame::Stamp;
 use drift_reference::post::HearAnswer::{Again, Beacon, Early, Taken};
 use drift_reference::post::Post;
@@ -114,7 +111,7 @@ fn the_broadcast_knows_what_the_frame_brought() {
 
 #[test]
 fn a_relay_takes_and_broadcasts() {
-    let mut post = fresh(4, 0x11, 0x01, 0x01).expect("lane 4 is in the yard");
+    let mut post = Post::fresh(4, 0x11, 0x01, 0x01).expect("lane 4 is in the yard");
     let frame = order_frame(0, (0, 1, 5, 6), &[(0, 1, 5)]);
     let (answer, broadcast) = hear(&mut post, &frame);
     assert_eq!(answer, Taken(0));
@@ -141,9 +138,9 @@ fn newest_entry_is_the_highest_stamp_and_of_equals_the_higher_serial() {
 
 #[test]
 fn a_fresh_post_is_empty() {
-    let post = fresh(6, 0xC1, 0x41, 0xC0).expect("lane 6 is in the yard");
-    assert_eq!((post.lane, post.setup), (6, setup(0xC1, 0x41, 0xC0)));
-    assert_eq!(post.spare, 0);
+    let post = Post::fresh(6, 0xC1, 0x41, 0xC0).expect("lane 6 is in the yard");
+    let roles = (post.lane, post.posts, post.sources, post.dests);
+    assert_eq!(roles, (6, 0xC1, 0x41, 0xC0));
     assert_eq!((post.clock.0, post.serial.0, post.logged), (0, 0, 0));
     assert_eq!((post.last, post.table), ([0; 8], [0; 136]));
     assert_eq!((post.stamps, post.words), ([0; 128], [0; 128]));

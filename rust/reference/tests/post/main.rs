@@ -1,7 +1,6 @@
-//! Tests of the post run singly against document 01 and request K3.
+//! Tests of the post run singly against document 01.
 
 mod deliver;
-mod entries;
 mod hear;
 mod precedence;
 mod record;
@@ -10,30 +9,15 @@ mod story;
 
 use drift_reference::frame::{Entry, Frame, Serial, Stamp, BEACON, FRAME_LENGTH, LANES, ORDER};
 use drift_reference::post::{HearAnswer, OrderAnswer, Post};
-use drift_reference::setup::Setup;
 
 type Bytes = [u8; FRAME_LENGTH];
 
 /// What a buffer holds before a step.
 const UNTOUCHED: Bytes = [0xA5; FRAME_LENGTH];
 
-/// What line 1 says if it has no entries: up to eight in a broadcast.
-fn setup(posts: u8, sources: u8, dests: u8) -> Setup {
-    Setup {
-        posts,
-        sources,
-        dests,
-        entries: 8,
-    }
-}
-
-fn fresh(lane: u8, posts: u8, sources: u8, dests: u8) -> Result<Post, u8> {
-    Post::fresh(lane, setup(posts, sources, dests))
-}
-
 /// A post of the yard in document 01: 0 both, 1 source, 2 dest.
 fn post_of_yard(lane: u8) -> Post {
-    fresh(lane, 0b111, 0b011, 0b101).expect("a lane of the yard")
+    Post::fresh(lane, 0b111, 0b011, 0b101).expect("a lane of the yard")
 }
 
 /// Post 0 after the six lines of the script: clock 4, both orders taken and logged.

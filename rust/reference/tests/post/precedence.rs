@@ -1,12 +1,11 @@
 //! Which refusal wins where several hold, and that the steps are total.
 
 use super::{
-    assert_beacon_refused, assert_hear_refused, assert_order_refused, beacon_frame, fresh,
-    order_frame, post_of_yard, post_with_both_orders, setup,
+    assert_beacon_refused, assert_hear_refused, assert_order_refused, beacon_frame, order_frame,
+    post_of_yard, post_with_both_orders,
 };
 use drift_reference::frame::{Serial, Stamp};
 use drift_reference::post::{Post, LAST_STAMP};
-use drift_reference::setup::Setup;
 
 /// A fault put on top of the others.
 type Fault = fn(&mut Post);
@@ -21,10 +20,8 @@ fn order_the_lowest_number_wins() {
             (post.serial, post.last[0]) = (Serial(16), 16);
             post.stamps[..16].fill(1);
         }),
-        (22, |post| post.setup.sources = 0b010),
-        (21, |post| {
-            (post.setup.posts, post.setup.dests) = (0b110, 0b100)
-        }),
+        (22, |post| post.sources = 0b010),
+        (21, |post| (post.posts, post.dests) = (0b110, 0b100)),
         (12, |post| post.words[127] = 1),
     ];
     for (number, fault) in faults {
@@ -37,7 +34,7 @@ fn order_the_lowest_number_wins() {
 #[test]
 fn beacon_the_lowest_number_wins() {
     let mut post = post_of_yard(0);
-    post.setup = setup(0b110, 0b010, 0b100);
+    (post.posts, post.sources, post.dests) = (0b110, 0b010, 0b100);
     assert_beacon_refused(&post, 32, 21);
     post.log[5] = 1;
     assert_beacon_refused(&post, 32, 12);
@@ -58,7 +55,7 @@ fn hear_the_lowest_number_wins() {
     post.clock = LAST_STAMP;
     assert_hear_refused(&post, &own, 32, 24);
     // Without a post at its lane it has no roles there either.
-    post.setup = setup(0b110, 0b010, 0b100);
+    (post.posts, post.sources, post.dests) = (0b110, 0b010, 0b100);
     assert_hear_refused(&post, &own, 32, 21);
     post.logged = 200;
     assert_hear_refused(&post, &own, 32, 12);
@@ -111,14 +108,14 @@ fn fresh_12_before_21() {
         ((0, 0b10, 0b10, 0b10), 21),
     ] {
         let (lane, posts, sources, dests) = arguments;
-        let refused = fresh(lane, posts, sources, dests);
+        let refused = Post::fresh(lane, posts, sources, dests);
         assert_eq!(refused, Err(number), "{arguments:?}");
     }
     for lane in 0..8 {
         let set = 1 << lane;
-        assert!(fresh(lane, set, 0, 0).is_ok());
-        assert!(fresh(lane, 0xFF, 0xFF, 0xFF).is_ok());
-        assert_eq!(fresh(lane, !set, 0, 0), Err(21));
+        assert!(Post::fresh(lane, set, 0, 0).is_ok());
+        assert!(Post::fresh(lane, 0xFF, 0xFF, 0xFF).is_ok());
+        assert_eq!(Post::fresh(lane, !set, 0, 0), Err(21));
     }
 }
 
@@ -129,13 +126,9 @@ fn any_numbers_at_all_are_answered() {
         let wide = u16::from(number) * 257;
         let mut post = Post {
             lane: number,
-            setup: Setup {
-                posts: number,
-                sources: number,
-                dests: number,
-                entries: number,
-            },
-            spare: number,
+            posts: number,
+            sources: number,
+            dests: number,
             clock: Stamp(wide),
             serial: Serial(number),
             last: [number; 8],
@@ -145,12 +138,13 @@ fn any_numbers_at_all_are_answered() {
             log: [number; 128],
             logged: number,
         };
-        assert_beacon_refused(&post, 32, 12);
-        assert_order_refused(&post, 32, 12);
+        let expected = if number == 0 { 21 } else { 12 };
+        assert_beacon_refused(&post, 32, expected);
+        assert_order_refused(&post, 32, expected);
         for byte in 0..=255 {
             assert!(post.hear(&[byte; 32], &mut [0; 32]).is_err());
         }
         let frame = order_frame(7, (7, 16, 65_535, 0), &[(7, 16, 65_535)]);
-        assert_hear_refused(&post, &frame, 32, 12);
+        assert_hear_refused(&post, &frame, 32, expected);
     }
 }

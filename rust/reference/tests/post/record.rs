@@ -1,8 +1,8 @@
 //! Refusal 12: each clause broken in turn, and what is not judged.
 
 use super::{
-    assert_beacon_refused, assert_hear_refused, assert_order_refused, beacon, beacon_frame, fresh,
-    hear, order, post_with_both_orders,
+    assert_beacon_refused, assert_hear_refused, assert_order_refused, beacon, beacon_frame, hear,
+    order, post_with_both_orders,
 };
 use drift_reference::frame::{Serial, Stamp};
 use drift_reference::post::HearAnswer::Beacon;
@@ -35,7 +35,7 @@ fn assert_good(name: &str, change: impl Fn(&mut Post)) {
 
 /// A record with every order taken and logged; the lanes' stamps are all equal.
 fn full(lane: u8) -> Post {
-    let mut post = fresh(lane, 0xFF, 0xFF, 0xFF).expect("every lane is in the yard");
+    let mut post = Post::fresh(lane, 0xFF, 0xFF, 0xFF).expect("every lane is in the yard");
     post.serial = Serial(16);
     post.last = [16; 8];
     post.stamps = [1; 128];
@@ -97,12 +97,12 @@ fn a_full_record_is_good_and_nothing_goes_beyond() {
 #[test]
 fn a_role_at_a_lane_without_a_post() {
     for lane in 3..8 {
-        assert_bad("source", |post| post.setup.sources |= 1 << lane);
-        assert_bad("dest", |post| post.setup.dests |= 1 << lane);
-        assert_good("post without a role", |post| post.setup.posts |= 1 << lane);
+        assert_bad("source", |post| post.sources |= 1 << lane);
+        assert_bad("dest", |post| post.dests |= 1 << lane);
+        assert_good("post without a role", |post| post.posts |= 1 << lane);
     }
-    assert_bad("source 1 without a post", |post| post.setup.posts = 0b101);
-    assert_bad("dest 2 without a post", |post| post.setup.posts = 0b011);
+    assert_bad("source 1 without a post", |post| post.posts = 0b101);
+    assert_bad("dest 2 without a post", |post| post.posts = 0b011);
 }
 
 #[test]
@@ -171,7 +171,7 @@ fn a_log_that_repeats_or_has_one_not_taken() {
 #[test]
 fn what_is_not_judged() {
     assert_good("order of the log", |post| post.log.swap(0, 1));
-    assert_good("log at no destination", |post| post.setup.dests = 0);
+    assert_good("log at no destination", |post| post.dests = 0);
     assert_good("own entry other than the clock", |post| post.table[1] = 9);
     assert_good("table of every lane", |post| post.table = [65_535; 136]);
     assert_good("equal and falling stamps", |post| {
@@ -184,7 +184,7 @@ fn what_is_not_judged() {
     });
     assert_good("clock below its stamps", |post| post.clock = Stamp(0));
     let clock_of_no_source = changed(|post| {
-        post.setup.sources = 0;
+        post.sources = 0;
         post.clock = Stamp(65_535);
     });
     assert_eq!(clock_of_no_source.judge(), Ok(()));

@@ -2,7 +2,7 @@
 
 use super::{
     assert_beacon_refused, assert_hear_refused, assert_order_refused, beacon, beacon_frame, hear,
-    order, order_frame, post_of_yard, post_with_both_orders, setup, Bytes,
+    order, order_frame, post_of_yard, post_with_both_orders, Bytes,
 };
 use drift_reference::frame::Stamp;
 use drift_reference::post::HearAnswer::{Again, Beacon, Early, Taken};
@@ -46,14 +46,14 @@ fn refusals_7_to_11_of_the_frame() {
 #[test]
 fn refusal_21_post_not_in_the_yard() {
     let mut post = post_of_yard(2);
-    post.setup.dests = 0b001;
+    post.dests = 0b001;
     hear(&mut post.clone(), &beacon_frame(1, &[]));
-    post.setup.posts = 0b011;
+    post.posts = 0b011;
     assert_order_refused(&post, 32, 21);
     assert_refused(&post, &beacon_frame(1, &[]), 21);
     assert_beacon_refused(&post, 32, 21);
     // A record with no posts and no roles is good, but no post of it is in the yard.
-    post.setup = setup(0, 0, 0);
+    (post.posts, post.sources, post.dests) = (0, 0, 0);
     assert_eq!(post.judge(), Ok(()));
     assert_beacon_refused(&post, 32, 21);
 }
@@ -62,7 +62,7 @@ fn refusal_21_post_not_in_the_yard() {
 fn refusals_22_and_23_of_an_order() {
     let mut post = post_of_yard(2);
     assert_order_refused(&post, 32, 22);
-    post.setup.sources = 0b111;
+    post.sources = 0b111;
     for _ in 1..=16 {
         order(&mut post, 9);
     }
@@ -122,10 +122,10 @@ fn refusal_28_strangers() {
         assert_refused(&post, &order_frame(1, (0, 1, 1, 5), &[(lane, 3, 9)]), 28);
     }
     // A sender need not be a source; the empty entries belong to nobody.
-    post.setup.posts |= 0b1000;
+    post.posts |= 0b1000;
     assert_eq!(hear(&mut post, &beacon_frame(3, &[(1, 0, 1)])).0, Beacon(0));
     // Bytes 2 of a beacon name no lane: 0 need not be a source for it.
-    post.setup.sources = 0b010;
+    post.sources = 0b010;
     assert_eq!(hear(&mut post, &beacon_frame(1, &[])).0, Beacon(0));
     assert_refused(&post, &order_frame(1, (0, 1, 1, 5), &[]), 28);
 }

@@ -1,6 +1,6 @@
 //! The stories of the yard bench, told with single posts that pass frames by hand.
 
-use super::{beacon, fresh, hear, logged, order, order_frame, post_of_yard};
+use super::{beacon, hear, logged, order, order_frame, post_of_yard};
 use drift_reference::frame::{Serial, Stamp};
 use drift_reference::post::HearAnswer::{Again, Beacon, Early, Taken};
 use drift_reference::post::{OrderAnswer, Post};
@@ -78,14 +78,15 @@ fn p3_a_lane_not_taken_holds_the_log_back() {
 
 #[test]
 fn p5_one_post_delivers_its_own_order_at_once() {
-    let mut post = fresh(0, 1, 1, 1).expect("a yard of one post");
+    let mut post = Post::fresh(0, 1, 1, 1).expect("a yard of one post");
     assert_eq!(order(&mut post, 5).0, order_answer(1, 1, 1));
     assert_eq!(logged(&post), [(1, 0, 5)]);
 }
 
 #[test]
 fn p6_equal_stamps_by_lower_lane() {
-    let [mut zero, mut one] = [0, 1].map(|lane| fresh(lane, 3, 3, 3).expect("a yard of two posts"));
+    let [mut zero, mut one] =
+        [0, 1].map(|lane| Post::fresh(lane, 3, 3, 3).expect("a yard of two posts"));
     let (_, frame_0) = order(&mut zero, 7);
     let (_, frame_1) = order(&mut one, 8);
     // Each now knows the other up to stamp 1 and itself up to stamp 2.
@@ -126,7 +127,7 @@ fn p8_serial_2_before_serial_1() {
 
 #[test]
 fn the_sixteenth_order_passes() {
-    let mut post = fresh(7, 0x80, 0x80, 0x80).expect("a yard of one post");
+    let mut post = Post::fresh(7, 0x80, 0x80, 0x80).expect("a yard of one post");
     for number in 1..=16 {
         let (answer, frame) = order(&mut post, 100 + number);
         assert_eq!(answer, order_answer(number as u8, number, 1));

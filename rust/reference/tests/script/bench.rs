@@ -132,8 +132,7 @@ fn p9_entries_with_serial_0_and_with_stamp_0() {
 
 #[test]
 fn frames_and_buffers_of_31_and_33_bytes() {
-    let setup = ran("(yard (0 both) (1 both))\n").0.setup;
-    let mut post = Post::fresh(1, setup).expect("lane 1 is in the yard");
+    let mut post = Post::fresh(1, 0b11, 0b11, 0b11).expect("lane 1 is in the yard");
     let mut long = [0; 33];
     long[..32].copy_from_slice(&P2);
     for length in [31, 33] {

@@ -1,8 +1,7 @@
-//! Tests of scripts and printouts against document 01 and request K3.
+//! Tests of scripts and printouts against document 01.
 
 mod answers;
 mod bench;
-mod entries;
 mod forms;
 mod largest;
 mod numbers;
@@ -66,7 +65,7 @@ fn assert_bad(script: impl AsRef<[u8]>, line: u32, number: u8) {
     assert!(air.iter().all(|&byte| byte == UNTOUCHED));
 }
 
-/// The script must pass refusals 1 to 5 and 33.
+/// The script must pass refusals 1 to 5.
 fn assert_good(script: &str) {
     let printout = printed(script);
     let first = printout.lines().next().expect("a line for each post");

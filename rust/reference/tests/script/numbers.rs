@@ -2,7 +2,6 @@
 
 use super::{assert_bad, assert_good, fresh_air, printed, printed_over, ran};
 use drift_reference::script::LastAnswer;
-use drift_reference::setup::Setup;
 
 #[test]
 fn empty_text() {
@@ -189,12 +188,7 @@ fn the_whole_script_is_judged_before_a_step_runs() {
 fn a_script_of_the_yard_line_alone() {
     let (yard, answer) = ran("(yard (1 source) (3 relay) (6 dest) (7 both))\n");
     assert_eq!(answer, LastAnswer::YardMade);
-    let expected = Setup {
-        posts: 0b1100_1010,
-        sources: 0b1000_0010,
-        dests: 0b1100_0000,
-        entries: 8,
-    };
-    assert_eq!(yard.setup, expected);
+    let sets = (yard.present, yard.sources, yard.dests);
+    assert_eq!(sets, (0b1100_1010, 0b1000_0010, 0b1100_0000));
     assert_eq!((yard.frames, yard.beacons), (0, [0; 8]));
 }

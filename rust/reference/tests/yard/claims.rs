@@ -63,7 +63,7 @@ impl History {
             assert!(log.iter().all(|order| self.sent.contains(order)));
             let keys = log.iter().map(|&(lane, _, stamp, _)| (stamp, lane));
             assert!(keys.is_sorted_by(|one, next| one < next));
-            assert!(log.is_empty() || self.world.yard.setup.dests >> lane & 1 == 1);
+            assert!(log.is_empty() || self.world.yard.dests >> lane & 1 == 1);
             for other in logs {
                 assert!(other.starts_with(log) || log.starts_with(other));
             }
@@ -73,11 +73,10 @@ impl History {
     /// After a roll call every destination has every order sent before it.
     fn check_roll_call(&self, count: u16, logs: &[Vec<Order>]) {
         let yard = &self.world.yard;
-        let [posts, sources] =
-            [yard.setup.posts, yard.setup.sources].map(|set| set.count_ones() as usize);
+        let [posts, sources] = [yard.present, yard.sources].map(|set| set.count_ones() as usize);
         let expected = (posts - 1) * self.sent.len() + posts * sources;
         assert_eq!(usize::from(count), expected);
-        for lane in lanes(yard.setup.dests) {
+        for lane in lanes(yard.dests) {
             assert_eq!(logs[lane].len(), self.sent.len());
         }
     }

@@ -28,7 +28,7 @@ fn list(random: &mut Random, fresh: &World) -> Vec<Step> {
 fn row_of_beacons(random: &mut Random, world: &World) -> Vec<Step> {
     let lane = match random.below(10) {
         0 => random.below(10),
-        _ => random.one_of(world.yard.setup.posts),
+        _ => random.one_of(world.yard.present),
     };
     vec![Step::Beacon(lane); 1 + random.below(LONGEST_ROW)]
 }
@@ -94,7 +94,7 @@ fn the_first_128_beacons_of_a_post_are_granted() {
             for (number, answer) in (1..).zip(answers(&fresh, lane, &steps)) {
                 let expected = match lane {
                     8.. => Err(4),
-                    _ if fresh.yard.setup.posts >> lane & 1 == 0 => Err(21),
+                    _ if fresh.yard.present >> lane & 1 == 0 => Err(21),
                     _ if number > 128 => Err(27),
                     _ => Ok(Answer::Sent),
                 };

@@ -1,9 +1,8 @@
-//! Tests of the yard's steps against document 01 and requests K2 and K3.
+//! Tests of the yard's steps against document 01 and request K2.
 
 mod air;
 mod beacons;
 mod claims;
-mod entries;
 mod grants;
 mod precedence;
 mod refusals;
@@ -12,7 +11,6 @@ mod singly;
 mod steps;
 
 use drift_reference::post::{HearAnswer, OrderAnswer, Post};
-use drift_reference::setup::Setup;
 use drift_reference::yard::{Yard, AIR_LENGTH};
 
 /// What the air holds before the first step.
@@ -43,15 +41,11 @@ enum Answer {
 }
 
 impl World {
-    fn of(setup: Setup) -> World {
+    fn fresh(present: u8, sources: u8, dests: u8) -> World {
         World {
-            yard: Yard::fresh(setup).expect("a good yard"),
+            yard: Yard::fresh(present, sources, dests).expect("a good yard"),
             air: vec![UNTOUCHED; AIR_LENGTH],
         }
-    }
-
-    fn fresh(posts: u8, sources: u8, dests: u8) -> World {
-        World::of(setup(posts, sources, dests))
     }
 
     /// The yard of document 01: 0 both, 1 source, 2 dest.
@@ -110,16 +104,6 @@ impl World {
     }
 }
 
-/// What line 1 says if it has no entries: up to eight in a broadcast.
-fn setup(posts: u8, sources: u8, dests: u8) -> Setup {
-    Setup {
-        posts,
-        sources,
-        dests,
-        entries: 8,
-    }
-}
-
 /// The log as it is printed: stamp, lane, word.
 fn logged(post: &Post) -> Vec<(u16, u8, u16)> {
     let items = &post.log[..usize::from(post.logged)];
@@ -151,22 +135,19 @@ impl Random {
         (self.next() % limit as u64) as usize
     }
 
-    /// A fresh yard with at least one post and any number of entries.
+    /// A fresh yard with at least one post.
     fn world(&mut self) -> World {
-        let posts = self.below(255) as u8 + 1;
-        World::of(Setup {
-            posts,
-            sources: posts & self.next() as u8,
-            dests: posts & self.next() as u8,
-            entries: self.below(8) as u8 + 1,
-        })
+        let present = self.below(255) as u8 + 1;
+        let sources = present & self.next() as u8;
+        let dests = present & self.next() as u8;
+        World::fresh(present, sources, dests)
     }
 
     /// A step, mostly at lanes and frames that are there.
     fn step(&mut self, world: &World) -> Step {
         let lane = match self.below(40) {
             0 => self.below(10),
-            _ => self.one_of(world.yard.setup.posts),
+            _ => self.one_of(world.yard.present),
         };
         let frames = usize::from(world.yard.frames);
         match self.below(64) {
@@ -174,8 +155,8 @@ impl Random {
             1..=3 => Step::Beacon(lane),
             4..=15 => match self.below(10) {
                 0 => Step::Order(lane, self.below(70_000)),
-                _ if world.yard.setup.sources == 0 => Step::Order(lane, 1),
-                _ => Step::Order(self.one_of(world.yard.setup.sources), self.below(65_536)),
+                _ if world.yard.sources == 0 => Step::Order(lane, 1),
+                _ => Step::Order(self.one_of(world.yard.sources), self.below(65_536)),
             },
             _ if frames == 0 || self.below(50) == 0 => Step::Hear(lane, self.below(3_000)),
             _ => Step::Hear(lane, self.below(frames)),

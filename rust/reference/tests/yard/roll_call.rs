@@ -4,10 +4,7 @@ use super::{lanes, Random, Step, World};
 
 /// Runs the single steps of a roll call; gives how many they were.
 fn run_single_steps(world: &mut World) -> usize {
-    let (posts, sources) = (
-        lanes(world.yard.setup.posts),
-        lanes(world.yard.setup.sources),
-    );
+    let (posts, sources) = (lanes(world.yard.present), lanes(world.yard.sources));
     let mut count = 0;
     for &post in &posts {
         for lane in (0..8).filter(|&lane| lane != post) {
@@ -50,7 +47,7 @@ fn roll_call(world: &mut World) -> usize {
         .iter()
         .map(|post| u32::from(post.serial.0))
         .sum();
-    let [posts, sources] = [world.yard.setup.posts, world.yard.setup.sources].map(u8::count_ones);
+    let [posts, sources] = [world.yard.present, world.yard.sources].map(u8::count_ones);
     let count = usize::from(world.roll_call());
     assert_eq!(count as u32, (posts - 1) * sent + posts * sources);
     assert_eq!(run_single_steps(&mut singly), count);
@@ -147,7 +144,7 @@ fn after_random_steps_it_does_what_its_list_does() {
             let _ = world.run(step);
         }
         let has_left = |&lane: &usize| world.yard.beacons[lane] < 128;
-        if lanes(world.yard.setup.sources).iter().all(has_left) {
+        if lanes(world.yard.sources).iter().all(has_left) {
             roll_call(&mut world);
         }
     }

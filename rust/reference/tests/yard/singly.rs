@@ -54,7 +54,7 @@ impl Singles {
 
 /// Whether single posts can run the step and 21 does not come before 25.
 fn fits(step: Step, yard: &Yard) -> bool {
-    let is_there = |lane: usize| lane < 8 && yard.setup.posts >> lane & 1 == 1;
+    let is_there = |lane: usize| lane < 8 && yard.present >> lane & 1 == 1;
     match step {
         Step::Order(lane, word) => lane < 8 && word < 65_536,
         Step::Hear(lane, _) => is_there(lane),

@@ -1,10 +1,9 @@
 //! What the single steps do to posts, air and counts.
 
-use super::{setup, World, UNTOUCHED};
+use super::{World, UNTOUCHED};
 use drift_reference::frame::{Serial, Stamp};
 use drift_reference::post::HearAnswer::{Again, Beacon, Early, Taken};
 use drift_reference::post::{OrderAnswer, Post};
-use drift_reference::setup::Setup;
 use drift_reference::yard::Yard;
 
 fn order_answer(serial: u8, stamp: u16, count: u8) -> OrderAnswer {
@@ -17,22 +16,16 @@ fn order_answer(serial: u8, stamp: u16, count: u8) -> OrderAnswer {
 
 #[test]
 fn a_fresh_yard_has_fresh_records_at_all_lanes() {
-    let setup = Setup {
-        entries: 3,
-        ..setup(0xB1, 0x11, 0xA0)
-    };
-    let yard = Yard::fresh(setup).expect("a good yard");
-    assert_eq!(yard.setup, setup);
+    let yard = Yard::fresh(0xB1, 0x11, 0xA0).expect("a good yard");
+    assert_eq!((yard.present, yard.sources, yard.dests), (0xB1, 0x11, 0xA0));
     assert_eq!((yard.frames, yard.beacons), (0, [0; 8]));
     assert_eq!(yard.first, [0; 128]);
     for (lane, post) in (0..).zip(&yard.posts) {
-        let expected = Post {
-            lane,
-            setup,
-            ..Post::EMPTY
-        };
+        let mut expected = Post::EMPTY;
+        expected.lane = lane;
+        (expected.posts, expected.sources, expected.dests) = (0xB1, 0x11, 0xA0);
         assert_eq!(*post, expected);
-        let singly = Post::fresh(lane, setup);
+        let singly = Post::fresh(lane, 0xB1, 0x11, 0xA0);
         let is_there = 0xB1 >> lane & 1 == 1;
         assert_eq!(singly, if is_there { Ok(expected) } else { Err(21) });
     }
@@ -40,15 +33,14 @@ fn a_fresh_yard_has_fresh_records_at_all_lanes() {
 
 #[test]
 fn a_yard_without_posts_or_with_a_stray_role() {
-    let refusal = |posts, sources, dests| Yard::fresh(setup(posts, sources, dests)).err();
-    assert_eq!(refusal(0, 0, 0), Some(3));
-    assert_eq!(refusal(0, 1, 1), Some(3));
-    assert_eq!(refusal(1, 2, 0), Some(12));
-    assert_eq!(refusal(1, 0, 0x80), Some(12));
-    assert_eq!(refusal(0x7F, 0xFF, 0), Some(12));
-    for posts in 1..=255 {
-        assert_eq!(refusal(posts, posts, posts), None);
-        assert_eq!(refusal(posts, 0, 0), None);
+    assert_eq!(Yard::fresh(0, 0, 0), Err(3));
+    assert_eq!(Yard::fresh(0, 1, 1), Err(3));
+    assert_eq!(Yard::fresh(1, 2, 0), Err(12));
+    assert_eq!(Yard::fresh(1, 0, 0x80), Err(12));
+    assert_eq!(Yard::fresh(0x7F, 0xFF, 0), Err(12));
+    for present in 1..=255 {
+        assert!(Yard::fresh(present, present, present).is_ok());
+        assert!(Yard::fresh(present, 0, 0).is_ok());
     }
 }
 

@@ -3,19 +3,20 @@ use mathlib.Core.Path.{◌≡◌, sym, ◌∙◌}
 use mathlib.Core.Bool.{◌&&◌}
 use Prim.Native.Nat.{◌-◌}
 use lib.ListN.{length}
-use Rattle.lines.specs.Forms.{post_begins}
+use Rattle.text.specs.Bytes.{bytes}
+use Rattle.scan.specs.Scan.{stands}
 use Rattle.reader.proofs.FormsLaws.{PostsLeft, posts_start, posts_next, posts_measure, posts_end}
 use Rattle.reader.proofs.forms.read_posts.Statement.{statement}
 use Rattle.reader.proofs.forms.read_posts.Tie as tie
 
 abbrev invariant-loop : tie.invariant-loop
-invariant-loop s z₀ more₀ z more = (more ≡ (z.ok && post_begins s z.at)) × PostsLeft s z₀ z
+invariant-loop s z₀ more₀ z more = (more ≡ (z.ok && stands s z.at (bytes " ("))) × PostsLeft s z₀ z
 
 abbrev decreases-loop : tie.decreases-loop
 decreases-loop s z₀ more₀ z more = length s - z.at
 
 loop-holds : tie.Need-loop-init invariant-loop decreases-loop
-loop-holds c = (c.post_begins_lem.ensures, posts_start _ _)
+loop-holds c = (c.post-begins.ensures, posts_start _ _)
 
 loop-less : tie.Need-loop-smaller invariant-loop decreases-loop
 loop-less c =

@@ -11,10 +11,10 @@ use Rattle.script.proofs.posts.put_posts.Statement.{statement}
 use Rattle.script.proofs.posts.put_posts.Tie as tie
 
 abbrev invariant-loop : tie.invariant-loop
-invariant-loop output₀ to state posts a₀ lane₀ output a lane = (lane ≤ 8) × (out output a ≡ wrote (out output₀ to) (posts_text (yard_in state) lane)) × (length output ≡ length output₀)
+invariant-loop output₀ to state present a₀ lane₀ output a lane = (lane ≤ 8) × (out output a ≡ wrote (out output₀ to) (posts_text (yard_in state) lane)) × (length output ≡ length output₀)
 
 abbrev decreases-loop : tie.decreases-loop
-decreases-loop output₀ to state posts a₀ lane₀ output a lane = 8 - lane
+decreases-loop output₀ to state present a₀ lane₀ output a lane = 8 - lane
 
 loop-holds : tie.Need-loop-init invariant-loop decreases-loop
 unfolding wrote posts_text

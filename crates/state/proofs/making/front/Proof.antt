@@ -5,7 +5,7 @@ use Rattle.state.proofs.making.front.Statement.{statement}
 use Rattle.state.proofs.making.front.Tie as tie
 
 returns : tie.Need-returns
-returns c = front_fresh c.before.before.before.before.before.before.before.before.before.before.before.before.before.before.before.before.before.before.before.before.before.before.before.before.before.args.state.now c.before.before.before.before.before.before.before.before.before.before.before.before.before.before.before.before.before.before.before.before.before.before.clear.new.0 _ c.before.before.before.before.before.before.before.before.before.before.before.before.before.before.before.before.before.put.new.0 c.before.before.before.before.before.before.before.before.before.before.before.before.put2.new.0 c.before.before.before.before.before.before.before.put3.new.0 _ _ c.before.before.before.before.before.before.before.before.before.before.before.before.before.before.before.before.before.before.before.before.before.before.before.before.before.requires c.before.before.before.before.before.before.before.before.before.before.before.before.before.before.before.before.before.before.before.before.before.before.clear.ensures refl c.before.before.before.before.before.before.before.before.before.before.before.before.before.before.before.before.before.put.ensures c.before.before.before.before.before.before.before.before.before.before.before.before.put2.ensures c.before.before.before.before.before.before.before.put3.ensures c.before.before.put4.ensures
+returns c = front_fresh c.before.before.before.before.before.before.before.before.before.before.before.before.before.args.state.now c.before.before.before.before.before.before.before.before.before.before.clear.new.0 _ c.before.before.before.before.before.before.put.new.0 _ _ _ c.before.before.before.before.before.before.before.before.before.before.before.before.before.requires c.before.before.before.before.before.before.before.before.before.before.clear.ensures refl c.before.before.before.before.before.before.put.ensures c.before.before.put2.ensures
 
 pub front_spec : {M : Type 1} → statement M
-front_spec = tie.close (tie.spec (λ c. search rules) (λ c. search rules) (λ c. search rules) (λ c κs. tt) (λ c. search rules) (λ c κs. tt) (λ c. search rules) (λ c κs. tt) (λ c. search rules) (λ c κs. tt) (λ c. search rules) (λ c κs. tt) (λ c. search rules) returns)
+front_spec = tie.close (tie.spec (λ c. search rules) (λ c. search rules) (λ c. search rules) (λ c κs. tt) (λ c κs. tt) (λ c κs. tt) (λ c. search rules) returns)

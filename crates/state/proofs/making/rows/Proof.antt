@@ -10,19 +10,19 @@ use Rattle.state.proofs.making.rows.Statement.{statement}
 use Rattle.state.proofs.making.rows.Tie as tie
 
 abbrev invariant-loop : tie.invariant-loop
-invariant-loop state₀ setup lane₀ state lane = (lane ≤ 8) × (length state ≡ length state₀) × (FreshBelow state setup lane × SameFront state₀ state)
+invariant-loop state₀ present sources dests lane₀ state lane = (lane ≤ 8) × (length state ≡ length state₀) × (FreshBelow state present sources dests lane × SameFront state₀ state)
 
 abbrev decreases-loop : tie.decreases-loop
-decreases-loop state₀ setup lane₀ state lane = 8 - lane
+decreases-loop state₀ present sources dests lane₀ state lane = 8 - lane
 
 loop-holds : tie.Need-loop-init invariant-loop decreases-loop
-loop-holds c = (omega arith, refl, rows_none _ _)
+loop-holds c = (omega arith, refl, rows_none _ _ _ _)
 
 fresh_row_requires : tie.Need-fresh-row-requires invariant-loop decreases-loop
 fresh_row_requires c κs = lent_length c.before.before.loop.state c.before.before.loop.lane (omega arith) (omega arith)
 
 loop-again : tie.Need-loop-preserved invariant-loop decreases-loop
-loop-again c = (omega arith, omega arith, rows_more c.before.before.before.before.before.before.before.args.state.now c.before.before.before.before.before.loop.state c.before.before.fresh-row.new.0 _ c.before.before.before.before.before.before.before.args.setup c.before.before.before.before.before.loop.lane (omega arith) (omega arith) c.before.before.fresh-row.auto.0 c.before.before.before.before.before.loop.invariant.2 c.before.before.fresh-row.ensures.0 c.before.before.fresh-row.ensures.1 refl)
+loop-again c = (omega arith, omega arith, rows_more c.before.before.before.before.before.before.before.args.state.now c.before.before.before.before.before.loop.state c.before.before.fresh-row.new.0 _ c.before.before.before.before.before.before.before.args.present c.before.before.before.before.before.before.before.args.sources c.before.before.before.before.before.before.before.args.dests c.before.before.before.before.before.loop.lane (omega arith) (omega arith) c.before.before.fresh-row.auto.0 c.before.before.before.before.before.loop.invariant.2 c.before.before.fresh-row.ensures.0 c.before.before.fresh-row.ensures.1 refl)
 
 returns : tie.Need-returns invariant-loop decreases-loop
 returns c = let e : c.before.loop.lane ≡ 8 = omega arith in rw e at c.before.loop.invariant.2

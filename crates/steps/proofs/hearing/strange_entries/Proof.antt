@@ -1,8 +1,7 @@
 use Rattle.frame.specs.Lanes.{any_below}
 use Rattle.frame.specs.Layout.{no_entry}
 use Rattle.cells.specs.Sets.{has_lane}
-use Rattle.steps.specs.Refusals.{strange_entries}
-use Rattle.post.specs.Newest.{has_stamp}
+use Rattle.steps.specs.Refusals.{has_stamp, strange_entries}
 use Rattle.steps.proofs.HearWays.{some_found, none_so_far}
 use Prim.Native.Nat.{ℕ, ◌≤◌, ◌-◌}
 use mathlib.Core.Bool.{false, not, ◌&&◌}

@@ -22,7 +22,7 @@ add_t12_2 : tie.Need-overflow-add-t12-2
 add_t12_2 c = record { fits = omega (arith, ap (λ (h : Numbers). h.clock.0) c.before.before.before.before.before.read-numbers.ensures, c.before.before.before.before.before.before.before.before.requires) }
 
 returns : tie.Need-returns
-returns c = let h = sends (post_in c.before.before.before.before.before.before.before.before.before.before.before.before.before.before.before.before.before.before.before.args.row.now) (post_in c.before.before.before.before.before.before.before.before.tick.new.0) (post_in c.before.before.before.before.keep.new.0) c.before.before.before.before.before.before.before.before.before.before.before.before.before.before.before.before.before.before.before.args.word _ _ _ _ (ap (λ (h : Numbers). h.lane) c.before.before.before.before.before.before.before.before.before.before.before.before.before.before.before.before.read-numbers.ensures) (ap (λ (h : Numbers). h.serial.0) c.before.before.before.before.before.before.before.before.before.before.before.before.before.before.before.before.read-numbers.ensures) (ap (λ (h : Numbers). h.clock.0) c.before.before.before.before.before.before.before.before.before.before.before.before.before.before.before.before.read-numbers.ensures) (tick_post _ _ _ _ c.before.before.before.before.before.before.before.before.before.before.before.before.before.before.before.before.before.before.before.requires.0 c.before.before.before.before.before.before.before.before.tick.ensures) c.before.before.before.before.keep.ensures.0 (c.entries-sent.ensures ∙ entries_whole c.before.before.before.before.keep.new.0 (omega (arith, c.before.before.before.before.before.before.before.before.before.before.before.before.before.before.before.before.before.before.before.requires.0))) in (h.0, (h.1, (c.before.before.before.before.keep.ensures.1.0 ∙ tick_known _ _ _ _ c.before.before.before.before.before.before.before.before.tick.ensures, c.before.before.before.before.keep.ensures.1.1 ∙ tick_past _ _ _ _ c.before.before.before.before.before.before.before.before.tick.ensures)))
+returns c = let h = sends (post_in c.before.before.before.before.before.before.before.before.before.before.before.before.before.before.before.before.before.before.before.args.row.now) (post_in c.before.before.before.before.before.before.before.before.tick.new.0) (post_in c.before.before.before.before.keep.new.0) c.before.before.before.before.before.before.before.before.before.before.before.before.before.before.before.before.before.before.before.args.word _ _ _ _ (ap (λ (h : Numbers). h.lane) c.before.before.before.before.before.before.before.before.before.before.before.before.before.before.before.before.read-numbers.ensures) (ap (λ (h : Numbers). h.serial.0) c.before.before.before.before.before.before.before.before.before.before.before.before.before.before.before.before.read-numbers.ensures) (ap (λ (h : Numbers). h.clock.0) c.before.before.before.before.before.before.before.before.before.before.before.before.before.before.before.before.read-numbers.ensures) (tick_post _ _ _ _ c.before.before.before.before.before.before.before.before.before.before.before.before.before.before.before.before.before.before.before.requires.0 c.before.before.before.before.before.before.before.before.tick.ensures) c.before.before.before.before.keep.ensures.0 (c.newest-entries.ensures ∙ entries_whole c.before.before.before.before.keep.new.0 (omega (arith, c.before.before.before.before.before.before.before.before.before.before.before.before.before.before.before.before.before.before.before.requires.0))) in (h.0, (h.1, (c.before.before.before.before.keep.ensures.1.0 ∙ tick_known _ _ _ _ c.before.before.before.before.before.before.before.before.tick.ensures, c.before.before.before.before.keep.ensures.1.1 ∙ tick_past _ _ _ _ c.before.before.before.before.before.before.before.before.tick.ensures)))
 
 pub send_spec : {M : Type 1} → statement M
 send_spec = tie.close (tie.spec (λ c κs. tt) cast_lane add_t12 cast_t13 add_t12_2 (λ c. search rules) (λ c κs. tt) (λ c κs. tt) (λ c κs. tt) (λ c. search rules) returns)

@@ -1,6 +1,8 @@
 // The air of document 01, "Frames and the air": 65,536 lent bytes, in which frame k fills bytes 32×k to 32×k+31. So does a
 // frame that is written into other lent bytes, as a buffer for one broadcast.
 // The contracts cite specs/Air.antt and specs/Stretch.antt.
+#![tactic(auto)]
+
 ghost use Rattle.std.specs.Prelude.{◌≡◌};
 ghost use Rattle.air.specs.Air.{place_refusal, frames_with};
 ghost use Rattle.air.specs.Stretch.{stretch_refusal, stretch_of};

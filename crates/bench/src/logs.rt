@@ -4,7 +4,7 @@ use crate::cases::{after, number_at, part};
 use text::{put_labelled, put_text};
 
 // As many numbers as a case hands in or lends at most: some more than a log has.
-pub(crate) const MOST: usize = csv::NUMBERS + 16;
+pub(crate) const MOST: usize = csv_log::NUMBERS + 16;
 
 // The log that the numbers of a text are, written into the first so many bytes of a buffer: the answer, and those bytes.
 pub(crate) fn composes(text: &[u8], bytes: usize, buffer: &mut [u8], came: &mut [u8]) -> usize {
@@ -13,7 +13,7 @@ pub(crate) fn composes(text: &[u8], bytes: usize, buffer: &mut [u8], came: &mut 
     if bytes > buffer.len() {
         return 0;
     }
-    let answer = csv::drift_csv_write(first(&numbers, many), &mut buffer[..bytes]);
+    let answer = csv_log::drift_csv_write(first(&numbers, many), &mut buffer[..bytes]);
     let n = put_answered(came, answer, b"written ");
     put_text(came, n, part(buffer, 0, bytes))
 }
@@ -23,9 +23,9 @@ pub(crate) fn imports(file: &[u8], many: usize, numbers: &mut [u16], came: &mut 
     if many > numbers.len() {
         return 0;
     }
-    let answer = csv::drift_csv_read(file, &mut numbers[..many]);
+    let answer = csv_log::drift_csv_read(file, &mut numbers[..many]);
     let n = put_answered(came, answer, b"orders ");
-    let bad = csv::drift_csv_first_bad(file);
+    let bad = csv_log::drift_csv_first_bad(file);
     let n = put_labelled(came, n, b"bad ", (bad % 256) as u16);
     let n = put_line(came, n, b" at ", (bad / 256 % 65536) as u16);
     put_numbers(came, n, first(numbers, many))

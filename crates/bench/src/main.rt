@@ -1,6 +1,8 @@
 // The yard bench of document 01 and the cases of document 02, K1, run on the compiled code. The cases stand in the file
 // `stdin` of this crate, which says how they are written: one for each case of the joint table (crate `script_table`). Each
 // is run, and what came is compared with what the case expects.
+#![tactic(auto)]
+
 mod answers;
 mod cases;
 mod frames;
@@ -13,7 +15,7 @@ use libc::{STDIN_FILENO, STDOUT_FILENO};
 use std::num::wrapping_add_u64;
 
 // How many cases were run, and how many of them were the same.
-#[derive(Drop)]
+#[derive(Clone, Copy)]
 struct Counts {
     pub cases: u64,
     pub same: u64,

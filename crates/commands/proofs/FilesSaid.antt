@@ -14,15 +14,15 @@ use Rattle.text.proofs.Laws.{next}
 use Rattle.scan.proofs.Decimal.{at_most_5}
 use Rattle.meaning.specs.Texts.{bad_text}
 use Rattle.fields.specs.Fields.{read_header}
-use Rattle.csv.specs.declared.LogItem.{LogItem}
-use Rattle.csv.specs.Log.{Record, in_three, malformed, log_in, item_numbers, in_range, rises_after, count_of_lane, item_refusal, at_record, first_bad}
-use Rattle.csv.specs.Text.{in_turn}
-use Rattle.csv.specs.Writing.{records_in}
-use Rattle.csv.specs.Reading.{records_of, judged_file, log_read, csv_read_refusal, csv_read_answer, numbers_after, first_bad_answer}
-use Rattle.csv.proofs.Logs.{AllIn, item_passed, good_said, good_in, good_few, said_back}
-use Rattle.csv.proofs.Short.{numbers_length}
-use Rattle.csv.proofs.Numbers.{numbers_records}
-use Rattle.csv.proofs.Entries.{numbers_count}
+use Rattle.csv_log.specs.declared.LogItem.{LogItem}
+use Rattle.csv_log.specs.Log.{Record, in_three, malformed, log_in, item_numbers, in_range, rises_after, count_of_lane, item_refusal, at_record, first_bad}
+use Rattle.csv_log.specs.Text.{in_turn}
+use Rattle.csv_log.specs.Writing.{records_in}
+use Rattle.csv_log.specs.Reading.{records_of, judged_file, log_read, csv_read_refusal, csv_read_answer, numbers_after, first_bad_answer}
+use Rattle.csv_log.proofs.Logs.{AllIn, item_passed, good_said, good_in, good_few, said_back}
+use Rattle.csv_log.proofs.Short.{numbers_length}
+use Rattle.csv_log.proofs.Numbers.{numbers_records}
+use Rattle.csv_log.proofs.Entries.{numbers_count}
 use Rattle.files.proofs.Theorem.{file_passed}
 use Rattle.commands.specs.Csv.{log_item_text, csv_read_text, SaidFits}
 

@@ -24,13 +24,13 @@ use Rattle.fits.proofs.LineLengths.{accepted}
 use Rattle.script.specs.State.{state_held}
 use Rattle.script.specs.OnState.{script_knowns}
 use Rattle.script.proofs.ScriptWays.{yard_of_lem}
-use Rattle.csv.specs.Log.{item_numbers, log_in}
-use Rattle.csv.specs.Text.{log_text}
-use Rattle.csv.specs.Writing.{handed_text, csv_write_refusal, csv_write_answer, buffer_after}
-use Rattle.csv.proofs.Logs.{said_back}
-use Rattle.csv.proofs.Numbers.{numbers_records}
-use Rattle.csv.proofs.Entries.{front}
-use Rattle.csv.proofs.Laws.{not_off}
+use Rattle.csv_log.specs.Log.{item_numbers, log_in}
+use Rattle.csv_log.specs.Text.{log_text}
+use Rattle.csv_log.specs.Writing.{handed_text, csv_write_refusal, csv_write_answer, buffer_after}
+use Rattle.csv_log.proofs.Logs.{said_back}
+use Rattle.csv_log.proofs.Numbers.{numbers_records}
+use Rattle.csv_log.proofs.Entries.{front}
+use Rattle.csv_log.proofs.Laws.{not_off}
 use Rattle.desk.specs.Desk.{item_of, desk_log, desk_file}
 use Rattle.desk.proofs.Theorem.{desk}
 use Rattle.commands.specs.declared.CsvMade.{CsvMade}

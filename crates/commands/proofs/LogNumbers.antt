@@ -12,9 +12,9 @@ use Rattle.post.specs.declared.Post.{Post}
 use Rattle.row.specs.Rows.{post_in}
 use Rattle.roll.specs.Logs.{order_at, orders_logged}
 use Rattle.printout.proofs.Laws.{items_done, cells_some}
-use Rattle.csv.specs.declared.LogItem.{LogItem}
-use Rattle.csv.specs.Log.{item_numbers}
-use Rattle.csv.proofs.Entries.{numbers_count}
+use Rattle.csv_log.specs.declared.LogItem.{LogItem}
+use Rattle.csv_log.specs.Log.{item_numbers}
+use Rattle.csv_log.proofs.Entries.{numbers_count}
 use Rattle.desk.specs.Desk.{item_of}
 
 -- the numbers of the orders at the first k places of a log

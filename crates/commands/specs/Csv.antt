@@ -6,9 +6,9 @@ use Rattle.lines.specs.Lines.{judged}
 use Rattle.yard.specs.Worlds.{World}
 use Rattle.meaning.specs.Texts.{bad_text, three_text}
 use Rattle.meaning.specs.Script.{script_world}
-use Rattle.csv.specs.declared.LogItem.{LogItem}
-use Rattle.csv.specs.Text.{in_turn}
-use Rattle.csv.specs.Reading.{judged_file, log_read}
+use Rattle.csv_log.specs.declared.LogItem.{LogItem}
+use Rattle.csv_log.specs.Text.{in_turn}
+use Rattle.csv_log.specs.Reading.{judged_file, log_read}
 use Rattle.desk.specs.Desk.{desk_file}
 use Rattle.commands.specs.declared.CsvMade.{CsvMade}
 

@@ -3,8 +3,8 @@ use Rattle.std.specs.Prelude.{ℕ, ◌/◌, ◌%◌, cond, List, map}
 use Rattle.cells.specs.Sets.{has_lane}
 use Rattle.state.specs.Yards.{Yard, post_at}
 use Rattle.roll.specs.Logs.{orders_logged}
-use Rattle.csv.specs.Log.{item_numbers}
-use Rattle.csv.specs.Writing.{csv_write_answer, buffer_after}
+use Rattle.csv_log.specs.Log.{item_numbers}
+use Rattle.csv_log.specs.Writing.{csv_write_answer, buffer_after}
 use Rattle.desk.specs.Desk.{item_of}
 use Rattle.commands.specs.declared.CsvMade.{CsvMade}
 use Rattle.commands.specs.Csv.{not_made}

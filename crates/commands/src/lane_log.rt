@@ -3,7 +3,7 @@ ghost use Rattle.std.specs.Prelude.{◌≡◌, [], ◌∷◌, map, ◌<◌, leng
 ghost use Rattle.std.proofs.lemmas.List.Edits.{sets};
 ghost use Rattle.row.specs.Rows.{post_in};
 ghost use Rattle.state.specs.States.{yard_in};
-ghost use Rattle.csv.specs.Log.{item_numbers};
+ghost use Rattle.csv_log.specs.Log.{item_numbers};
 ghost use Rattle.desk.specs.Desk.{item_of};
 ghost use Rattle.roll.specs.Logs.{order_at, orders_logged};
 ghost use Rattle.commands.specs.Making.{lane_made, lane_buffer};
@@ -30,9 +30,9 @@ pub(crate) fn put_lane(state: &[u16], lane: usize, buffer: &mut [u8]) -> CsvMade
     }
     let start = state::ROWS + row::LENGTH * lane;
     let end = start + row::LENGTH;
-    let mut numbers = [0u16; csv::NUMBERS];
+    let mut numbers = [0u16; csv_log::NUMBERS];
     let n = log_numbers(&state[start..end], &mut numbers);
-    let answer = csv::drift_csv_write(&numbers[..n], buffer);
+    let answer = csv_log::drift_csv_write(&numbers[..n], buffer);
     CsvMade {
         number: (answer % 256) as u8,
         line: 0,
@@ -42,7 +42,7 @@ pub(crate) fn put_lane(state: &[u16], lane: usize, buffer: &mut [u8]) -> CsvMade
 
 // The numbers of a row's log, three an order: how many numbers there are.
 fn log_numbers(row: &[u16], numbers: &mut [u16]) -> usize
-    requires* { do ⌜ (length row.now ≡ 543) × ((← ⟦numbers.len()⟧) ≡ 384) ⌝ }
+    requires { (length row.now ≡ 543) × (length numbers.old ≡ 384) }
     ensures value { result ≡ length (item_numbers (map item_of (orders_logged (post_in row.now)))) }
     ensures numbers { numbers.new ≡ sets numbers.old 0 (item_numbers (map item_of (orders_logged (post_in row.now)))) }
 {
@@ -58,7 +58,7 @@ fn log_numbers(row: &[u16], numbers: &mut [u16]) -> usize
 
 // The three numbers of the order kept at a place.
 fn put_order(numbers: &mut [u16], i: usize, row: &[u16], place: u16)
-    requires* { do ⌜ ((← ⟦numbers.len()⟧) ≡ 384) × (i < 382) ⌝ }
+    requires { (length numbers.old ≡ 384) × (i < 382) }
     ensures { numbers.new ≡ sets numbers.old i (item_numbers (item_of (order_at (post_in row.now) place) ∷ [])) }
 {
     let stamp = row::stamp_at(row, place as usize);

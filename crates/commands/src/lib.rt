@@ -1,8 +1,10 @@
 // What the commands beside the plain run of a script give. The contracts cite specs/Csv.antt.
+#![tactic(auto)]
+
 mod lane_log;
 mod said;
 
-ghost use Rattle.std.specs.Prelude.{◌≡◌};
+ghost use Rattle.std.specs.Prelude.{◌≡◌, length};
 ghost use Rattle.lines.specs.Lines.{judged};
 ghost use Rattle.state.specs.States.{yard_in};
 ghost use Rattle.commands.specs.Csv.{command_world, not_made, csv_made, csv_buffer};
@@ -11,7 +13,7 @@ use frame::Frame;
 pub use said::put_said;
 
 // The file of a lane's log: its length, or the refusal's number and the script's line where it is the script's own.
-#[derive(Drop)]
+#[derive(Clone, Copy)]
 pub struct CsvMade {
     pub number: u8,
     pub line: u16,
@@ -33,7 +35,7 @@ pub fn csv_of_lane(script: &[u8], lane: usize, buffer: &mut [u8]) -> CsvMade
     if lane > (Frame::LAST_LANE as usize) {
         return not_made(0, 4);
     }
-    if buffer.len() != csv::BUFFER {
+    if buffer.len() != csv_log::BUFFER {
         return not_made(0, 6);
     }
     let mut state = [0u16; state::LENGTH];
@@ -53,7 +55,7 @@ fn not_made(line: u16, number: u8) -> CsvMade
 
 // The yard that a script leaves in the state, run on an air of its own.
 fn run(script: &[u8], state: &mut [u16])
-    requires* { do ⌜ ((judged script.now).number ≡ 0) × ((← ⟦state.len()⟧) ≡ 4483) ⌝ }
+    requires { ((judged script.now).number ≡ 0) × (length state.old ≡ 4483) }
     ensures { yard_in state.new ≡ (command_world script.now).yard }
 {
     let mut air = [0u8; AIR];

@@ -1,9 +1,9 @@
 // What a CSV file says, as a line of text.
 ghost use Rattle.std.specs.Prelude.{◌≡◌};
 ghost use Rattle.text.specs.Writing.{out, wrote};
-ghost use Rattle.csv.specs.Log.{log_in};
-ghost use Rattle.csv.specs.Text.{in_turn};
-ghost use Rattle.csv.specs.Writing.{records_in};
+ghost use Rattle.csv_log.specs.Log.{log_in};
+ghost use Rattle.csv_log.specs.Text.{in_turn};
+ghost use Rattle.csv_log.specs.Writing.{records_in};
 ghost use Rattle.commands.specs.Csv.{log_item_text, csv_read_text};
 
 use printout::{put_bad, put_three};
@@ -13,10 +13,10 @@ use text::put_text;
 pub fn put_said(output: &mut [u8], file: &[u8]) -> usize
     ensures { out output.new result ≡ wrote (out output.old 0) (csv_read_text file.now) }
 {
-    let mut numbers = [0u16; csv::NUMBERS];
-    let answer = csv::drift_csv_read(file, &mut numbers);
+    let mut numbers = [0u16; csv_log::NUMBERS];
+    let answer = csv_log::drift_csv_read(file, &mut numbers);
     if answer % 256 != 0 {
-        let bad = csv::drift_csv_first_bad(file);
+        let bad = csv_log::drift_csv_first_bad(file);
         return put_bad(output, 0, (bad / 256) as u16, (bad % 256) as u8);
     }
     let n = 3 * ((answer / 256) as usize);

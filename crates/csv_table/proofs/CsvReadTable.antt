@@ -10,9 +10,9 @@ use borrow.Author.Tests.{lt-ltb}
 use Rattle.text.specs.Bytes.{bytes}
 use Rattle.scan.specs.Scan.{all_below, stands, digit_at, read_text, first_digit, next_digit, read_number}
 use Rattle.fields.specs.Fields.{read_field, read_name, read_end, read_header, read_stamp, read_rest}
-use Rattle.csv.specs.Log.{log_in, item_numbers, in_range, rises, rises_after, count_of_lane, item_refusal, first_bad, at_record}
-use Rattle.csv.specs.Writing.{records_in}
-use Rattle.csv.specs.Reading.{record_at, after_record, records_from, records_of, judged_file, csv_read_refusal, csv_read_answer, numbers_after, first_bad_answer}
+use Rattle.csv_log.specs.Log.{log_in, item_numbers, in_range, rises, rises_after, count_of_lane, item_refusal, first_bad, at_record}
+use Rattle.csv_log.specs.Writing.{records_in}
+use Rattle.csv_log.specs.Reading.{record_at, after_record, records_from, records_of, judged_file, csv_read_refusal, csv_read_answer, numbers_after, first_bad_answer}
 use Rattle.csv_table.specs.CsvLogs.{printed_log, rising_log, log31, log32, full_text, longest_log, longest_text}
 use Rattle.csv_table.specs.CsvReadCases.{Imported, UnimportedIn, Unimported, CsvReadBench}
 

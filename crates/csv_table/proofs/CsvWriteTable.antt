@@ -6,9 +6,9 @@ use mathlib.Core.List.{List, []}
 use lib.Dec.{eqb}
 use lib.ListN.{length}
 use Rattle.text.specs.Decimal.{decimal}
-use Rattle.csv.specs.Log.{log_in, in_range, rises, rises_after, count_of_lane, item_refusal, first_bad}
-use Rattle.csv.specs.Text.{record_text, in_turn, log_text}
-use Rattle.csv.specs.Writing.{records_in, handed_text, csv_write_refusal, csv_write_answer, buffer_after}
+use Rattle.csv_log.specs.Log.{log_in, in_range, rises, rises_after, count_of_lane, item_refusal, first_bad}
+use Rattle.csv_log.specs.Text.{record_text, in_turn, log_text}
+use Rattle.csv_log.specs.Writing.{records_in, handed_text, csv_write_refusal, csv_write_answer, buffer_after}
 use Rattle.csv_table.specs.CsvWriteCases.{Composed, UncomposedIn, Uncomposed, CsvWriteBench}
 
 -- a log with no bad record, and what it is written as

@@ -1,7 +1,7 @@
 -- Document 02, K1, as cases: files read, what each answers and leaves in the numbers. Assumes nothing.
 use Rattle.std.specs.Prelude.{ℕ, ◌+◌, ◌*◌, ◌<◌, ◌≡◌, List, [], ◌∷◌, ◌++◌, length, drop, replicate}
 use Rattle.text.specs.Bytes.{bytes}
-use Rattle.csv.specs.Reading.{csv_read_answer, numbers_after, first_bad_answer}
+use Rattle.csv_log.specs.Reading.{csv_read_answer, numbers_after, first_bad_answer}
 use Rattle.csv_table.specs.CsvLogs.{header_line, printed_log, printed_text, rising_log, rising_text, log31, text31, log32, text32, full_text, longest_log, longest_text, text17}
 
 -- read into any 384 numbers as so many orders, which go to their start; no record is bad

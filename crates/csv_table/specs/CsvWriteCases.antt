@@ -1,6 +1,6 @@
 -- Document 02, K1, as cases: logs written, what each answers and leaves in the buffer. Assumes nothing.
 use Rattle.std.specs.Prelude.{ℕ, ◌*◌, ◌≡◌, List, [], ◌∷◌, ◌++◌, length, drop}
-use Rattle.csv.specs.Writing.{csv_write_answer, buffer_after}
+use Rattle.csv_log.specs.Writing.{csv_write_answer, buffer_after}
 use Rattle.csv_table.specs.CsvLogs.{header_line, printed_log, printed_text, rising_log, rising_text, log31, text31, log32, text32, full_log, longest_log, longest_text, log17}
 
 -- written into any buffer of 2,048 bytes: "with its length as the answer; the rest stays"

@@ -10,8 +10,8 @@ use lib.ListN.{length}
 use borrow.Author.Tests.{lt-ltb, le-ltb, le-leb, lt-leb, eq-eqb}
 use Rattle.laws.specs.Lists.{Mem, RisingBy}
 use Rattle.laws.proofs.TestLaws.{below_or_not, and_made, goes_on_lem}
-use Rattle.csv.specs.declared.LogItem.{LogItem}
-use Rattle.csv.specs.Log.{in_three, in_range, rises, rises_after, count_of_lane, item_refusal, first_bad, GoodLog}
+use Rattle.csv_log.specs.declared.LogItem.{LogItem}
+use Rattle.csv_log.specs.Log.{in_three, in_range, rises, rises_after, count_of_lane, item_refusal, first_bad, GoodLog}
 
 -- ---- one record
 

@@ -15,8 +15,8 @@ use Rattle.laws.specs.LogAfter.{NoRepeat, log_of}
 use Rattle.laws.specs.Records.{Shaped, Valid}
 use Rattle.laws.proofs.ListLaws.{mem_made}
 use Rattle.laws.proofs.ValidLog.{log_length, log_once, log_taken_lem, few_below}
-use Rattle.csv.specs.declared.LogItem.{LogItem}
-use Rattle.csv.specs.Log.{count_of_lane, GoodLog}
+use Rattle.csv_log.specs.declared.LogItem.{LogItem}
+use Rattle.csv_log.specs.Log.{count_of_lane, GoodLog}
 use Rattle.desk.specs.Desk.{item_of}
 use Rattle.desk.proofs.GoodLogs.{Ranged, item_rank, good_log}
 

@@ -4,11 +4,11 @@ use mathlib.Core.List.{List, [], ◌∷◌, ◌++◌, map, map-append, append_as
 use Prim.Native.Nat.{ℕ}
 use lib.ListN.{length}
 use Rattle.laws.specs.Lists.{Begins}
-use Rattle.csv.specs.declared.LogItem.{LogItem}
-use Rattle.csv.specs.Log.{item_numbers, GoodLog}
-use Rattle.csv.specs.Text.{header_text, record_text, records_text, log_text, in_turn}
-use Rattle.csv.specs.Writing.{csv_write_refusal}
-use Rattle.csv.proofs.Numbers.{numbers_records, write_passes}
+use Rattle.csv_log.specs.declared.LogItem.{LogItem}
+use Rattle.csv_log.specs.Log.{item_numbers, GoodLog}
+use Rattle.csv_log.specs.Text.{header_text, record_text, records_text, log_text, in_turn}
+use Rattle.csv_log.specs.Writing.{csv_write_refusal}
+use Rattle.csv_log.proofs.Numbers.{numbers_records, write_passes}
 
 -- ---- writing
 

@@ -18,9 +18,9 @@ use Rattle.agreement.proofs.FreshYards.{fresh_log}
 use Rattle.agreement.proofs.Sound.{InYard, Sound}
 use Rattle.agreement.proofs.WrongAir.{never_runs}
 use Rattle.agreement.proofs.Theorem.{reached, good, agreement}
-use Rattle.csv.specs.declared.LogItem.{LogItem}
-use Rattle.csv.specs.Log.{first_bad, GoodLog}
-use Rattle.csv.specs.Text.{records_text, log_text}
+use Rattle.csv_log.specs.declared.LogItem.{LogItem}
+use Rattle.csv_log.specs.Log.{first_bad, GoodLog}
+use Rattle.csv_log.specs.Text.{records_text, log_text}
 use Rattle.files.specs.Files.{no_quotes}
 use Rattle.files.specs.Exactly.{FileSays, Exactly}
 use Rattle.desk.specs.Desk.{item_of, desk_log, DeskGets, Desk}

@@ -7,10 +7,10 @@ use Rattle.yard.specs.Worlds.{World}
 use Rattle.roll.specs.Runs.{Step, run, Order}
 use Rattle.roll.specs.Logs.{log_at}
 use Rattle.agreement.specs.Demand3.{fresh_world}
-use Rattle.csv.specs.declared.LogItem.{LogItem}
-use Rattle.csv.specs.Log.{log_item, item_numbers}
-use Rattle.csv.specs.Text.{records_text, log_text}
-use Rattle.csv.specs.Writing.{csv_write_refusal}
+use Rattle.csv_log.specs.declared.LogItem.{LogItem}
+use Rattle.csv_log.specs.Log.{log_item, item_numbers}
+use Rattle.csv_log.specs.Text.{records_text, log_text}
+use Rattle.csv_log.specs.Writing.{csv_write_refusal}
 use Rattle.files.specs.Exactly.{FileSays}
 
 -- "A log here is its list of stamp, lane and word"

@@ -1,11 +1,13 @@
 // The yard program. Without arguments: a script from standard input, its printout to standard output. `csv LANE`: the script's
 // log of that lane as a CSV file. `csv-read`: what a CSV file from standard input says. Whatever fails is told on standard error.
+#![tactic(auto)]
+
 use libc::{STDERR_FILENO, STDIN_FILENO, STDOUT_FILENO};
 use scan::{read_number, stands_at, start_at};
 use text::put_labelled;
 
 // What the arguments ask for.
-#[derive(Drop)]
+#[derive(Clone, Copy)]
 enum Command {
     Script,
     Csv(usize),
@@ -103,7 +105,7 @@ fn read_csv(text: &[u8]) {
 
 // A script's log of a lane as a CSV file.
 fn write_csv(text: &[u8], lane: usize) {
-    let mut buffer = [0u8; csv::BUFFER];
+    let mut buffer = [0u8; csv_log::BUFFER];
     let made = commands::csv_of_lane(text, lane, &mut buffer);
     if made.number == 0 {
         print_first(&buffer, made.length);

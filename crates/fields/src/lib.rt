@@ -1,4 +1,6 @@
 // The fields of a CSV record, its end, and the header. The contracts cite specs/Fields.antt.
+#![tactic(auto)]
+
 ghost use Rattle.std.specs.Prelude.{◌≡◌};
 ghost use Rattle.fields.specs.Fields.{read_field, read_name, read_end, read_header};
 

@@ -8,15 +8,15 @@ use lib.Dec.{ltb}
 use lib.ListN.{length, length-append}
 use borrow.Author.Tests.{ltb-true, ltb-false}
 use Rattle.fields.specs.Fields.{crlf}
-use Rattle.csv.proofs.Finding.{records_one, records_none}
-use Rattle.csv.specs.declared.LogItem.{LogItem}
-use Rattle.csv.specs.Log.{Record, in_three, malformed, log_in, in_range, first_bad}
-use Rattle.csv.specs.Reading.{rest_at, record_at, after_record, records_from}
+use Rattle.csv_log.proofs.Finding.{records_one, records_none}
+use Rattle.csv_log.specs.declared.LogItem.{LogItem}
+use Rattle.csv_log.specs.Log.{Record, in_three, malformed, log_in, in_range, first_bad}
+use Rattle.csv_log.specs.Reading.{rest_at, record_at, after_record, records_from}
 use Rattle.files.specs.Files.{Quotes, three_fields, record_fields}
 use Rattle.scan.proofs.Laws.{never}
 use Rattle.scan.proofs.Here.{Here, here_split, here_join}
 use Rattle.files.proofs.Records.{closing, Closes, Short, after_fields, record_complete, record_sound}
-use Rattle.csv.proofs.Logs.{AllIn, in_range_lem, first_passed, malformed_bad}
+use Rattle.csv_log.proofs.Logs.{AllIn, in_range_lem, first_passed, malformed_bad}
 use Rattle.files.proofs.Texts.{first_of, others_of, after_header}
 
 -- ---- the list of records from a place on

@@ -12,9 +12,9 @@ use Rattle.text.specs.Decimal.{decimal}
 use Rattle.scan.specs.declared.Scan.{Scan}
 use Rattle.scan.specs.Scan.{digit_at, read_text}
 use Rattle.fields.specs.Fields.{comma, crlf, read_field, read_name, read_end, read_header, read_stamp, read_rest}
-use Rattle.csv.specs.declared.LogItem.{LogItem}
-use Rattle.csv.specs.Log.{in_three, log_item}
-use Rattle.csv.specs.Reading.{rest_at, record_at, after_record}
+use Rattle.csv_log.specs.declared.LogItem.{LogItem}
+use Rattle.csv_log.specs.Log.{in_three, log_item}
+use Rattle.csv_log.specs.Reading.{rest_at, record_at, after_record}
 use Rattle.files.specs.Files.{Quotes, field, three_fields, header_fields, record_fields}
 use Rattle.scan.proofs.Laws.{never, digit_past}
 use Rattle.scan.proofs.Here.{Here, here_split, here_join}

@@ -8,13 +8,13 @@ use lib.ListN.{length, length-append}
 use Rattle.text.specs.Bytes.{bytes}
 use Rattle.text.specs.Decimal.{decimal}
 use Rattle.fields.specs.Fields.{crlf}
-use Rattle.csv.specs.declared.LogItem.{LogItem}
-use Rattle.csv.specs.Log.{GoodLog}
-use Rattle.csv.specs.Text.{record_text, records_text, log_text, in_turn}
+use Rattle.csv_log.specs.declared.LogItem.{LogItem}
+use Rattle.csv_log.specs.Log.{GoodLog}
+use Rattle.csv_log.specs.Text.{record_text, records_text, log_text, in_turn}
 use Rattle.files.specs.Files.{Quotes, no_quotes, field, three_fields, header_fields, record_fields, records_after, file_text}
 use Rattle.files.proofs.Records.{closing}
-use Rattle.csv.proofs.Logs.{AllIn, good_in, good_few}
-use Rattle.csv.proofs.Short.{numbers_length}
+use Rattle.csv_log.proofs.Logs.{AllIn, good_in, good_few}
+use Rattle.csv_log.proofs.Short.{numbers_length}
 
 -- ---- what comes after the header
 

@@ -9,19 +9,19 @@ use lib.ListN.{length}
 use lib.Seq.{ext_get_or}
 use borrow.Author.Tests.{ltb-false, le-ltb}
 use Rattle.fields.specs.Fields.{read_header}
-use Rattle.csv.specs.declared.LogItem.{LogItem}
-use Rattle.csv.specs.Log.{in_three, log_in, item_numbers, at_record, first_bad, GoodLog}
-use Rattle.csv.specs.Text.{log_text}
-use Rattle.csv.specs.Writing.{records_in, handed_text, csv_write_refusal}
-use Rattle.csv.specs.Reading.{records_of, judged_file, log_read}
+use Rattle.csv_log.specs.declared.LogItem.{LogItem}
+use Rattle.csv_log.specs.Log.{in_three, log_in, item_numbers, at_record, first_bad, GoodLog}
+use Rattle.csv_log.specs.Text.{log_text}
+use Rattle.csv_log.specs.Writing.{records_in, handed_text, csv_write_refusal}
+use Rattle.csv_log.specs.Reading.{records_of, judged_file, log_read}
 use Rattle.files.specs.Files.{Quotes, no_quotes, header_fields, file_text}
 use Rattle.files.specs.Exactly.{FileSays, Exactly, RoundTrip}
 use Rattle.scan.proofs.Here.{Here}
 use Rattle.files.proofs.Records.{closing, header_complete, header_sound}
-use Rattle.csv.proofs.Logs.{good_said, said_back, good_in}
+use Rattle.csv_log.proofs.Logs.{good_said, said_back, good_in}
 use Rattle.files.proofs.Texts.{after_header, file_is, written_file, file_short}
 use Rattle.files.proofs.Lists.{Last, last_split, last_join, goes_on, after_closes, records_complete, records_sound}
-use Rattle.csv.proofs.Numbers.{numbers_records, records_numbers, write_passed, write_passes}
+use Rattle.csv_log.proofs.Numbers.{numbers_records, records_numbers, write_passed, write_passes}
 
 -- ---- a file that is not refused
 

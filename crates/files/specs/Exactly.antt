@@ -1,10 +1,10 @@
 -- Reading accepts exactly the files that say a log, and what is written reads back: the statements. Assumes nothing.
 use Rattle.std.specs.Prelude.{ℕ, ◌≡◌, Bool, true, List, [], length}
-use Rattle.csv.specs.declared.LogItem.{LogItem}
-use Rattle.csv.specs.Log.{item_numbers, GoodLog}
-use Rattle.csv.specs.Text.{log_text}
-use Rattle.csv.specs.Writing.{handed_text, csv_write_refusal}
-use Rattle.csv.specs.Reading.{judged_file, log_read}
+use Rattle.csv_log.specs.declared.LogItem.{LogItem}
+use Rattle.csv_log.specs.Log.{item_numbers, GoodLog}
+use Rattle.csv_log.specs.Text.{log_text}
+use Rattle.csv_log.specs.Writing.{handed_text, csv_write_refusal}
+use Rattle.csv_log.specs.Reading.{judged_file, log_read}
 use Rattle.files.specs.Files.{Quotes, no_quotes, file_text}
 
 -- a file is accepted, and says this log

@@ -3,7 +3,7 @@ use Rattle.std.specs.Prelude.{ℕ, Bool, false, cond, List, [], ◌∷◌, ◌++
 use Rattle.text.specs.Bytes.{bytes}
 use Rattle.text.specs.Decimal.{decimal}
 use Rattle.fields.specs.Fields.{comma, crlf, quote}
-use Rattle.csv.specs.declared.LogItem.{LogItem}
+use Rattle.csv_log.specs.declared.LogItem.{LogItem}
 
 -- which of a record's three fields stand in quotes
 pub record Quotes : Type 0 where

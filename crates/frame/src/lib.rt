@@ -1,5 +1,7 @@
 // The frame of document 01, "Frames and the air": 32 bytes, big-endian, judged by 6 to 11, read and written.
 // The contracts cite specs/Layout.antt, specs/Refusals.antt, specs/ReadWrite.antt and specs/Fields.antt.
+#![tactic(auto)]
+
 mod fields;
 mod layout;
 mod refusals;
@@ -12,7 +14,7 @@ ghost use Rattle.frame.specs.Fields.{fields_read_refusal, fields_read, fields_wr
 
 // A count of one lane's own orders (a per-source sequence number), 1 to 16; entries also have 0.
 #[repr(C)]
-#[derive(Drop)]
+#[derive(Clone, Copy)]
 pub struct Serial(pub u8);
 
 impl Serial {
@@ -23,18 +25,18 @@ impl Serial {
 
 // A reading of a source's logical clock (a Lamport timestamp); 0 means none.
 #[repr(C)]
-#[derive(Drop)]
+#[derive(Clone, Copy)]
 pub struct Stamp(pub u16);
 
 // A lane's newest stamp and the serial that it stands under, as a broadcast carries them; all zero is none.
-#[derive(Drop)]
+#[derive(Clone, Copy)]
 pub struct Entry {
     pub serial: Serial,
     pub stamp: Stamp,
 }
 
 // A broadcast: an order frame (a flooded message) or a beacon (entries alone), with an entry for each lane.
-#[derive(Drop)]
+#[derive(Clone, Copy)]
 pub struct Frame {
     pub kind: u8,
     pub sender: u8,
@@ -46,7 +48,7 @@ pub struct Frame {
 }
 
 // What reading gives: refusal 0 and the frame, or the refusal's number and a frame of zeros.
-#[derive(Drop)]
+#[derive(Clone, Copy)]
 pub struct FrameRead {
     pub refusal: u8,
     pub frame: Frame,
@@ -140,8 +142,7 @@ impl Frame {
 }
 
 // The number that the radio firmware gets for a received frame: 0, or 6 to 11.
-#[unsafe(no_mangle)]
-pub extern "C" fn drift_frame_check(bytes: &[u8]) -> u8
+pub fn drift_frame_check(bytes: &[u8]) -> u8
     ensures { result ≡ read_refusal bytes.now }
 {
     if bytes.len() != Frame::LENGTH {
@@ -161,8 +162,7 @@ pub extern "C" fn drift_frame_check(bytes: &[u8]) -> u8
 }
 
 // Puts a received frame's 22 fields into the lent numbers: 0, or the refusal 6 to 11 with the numbers as they were.
-#[unsafe(no_mangle)]
-pub extern "C" fn drift_frame_read(bytes: &[u8], fields: &mut [u16]) -> u8
+pub fn drift_frame_read(bytes: &[u8], fields: &mut [u16]) -> u8
     ensures number { result ≡ fields_read_refusal bytes.now fields.old }
     ensures fields { fields.new ≡ fields_read bytes.now fields.old }
 {
@@ -179,8 +179,7 @@ pub extern "C" fn drift_frame_read(bytes: &[u8], fields: &mut [u16]) -> u8
 }
 
 // Puts the bytes of the frame that 22 fields make into a buffer of 32: 0, or the refusal 6 to 11 with the buffer as it was.
-#[unsafe(no_mangle)]
-pub extern "C" fn drift_frame_write(fields: &[u16], buffer: &mut [u8]) -> u8
+pub fn drift_frame_write(fields: &[u16], buffer: &mut [u8]) -> u8
     ensures number { result ≡ fields_write_refusal fields.now buffer.old }
     ensures bytes { buffer.new ≡ fields_written fields.now buffer.old }
 {

@@ -1,6 +1,8 @@
 // The judgement of a post's record in its row, refusal 12. A good row then knows what its log makes known, so that no later
 // step looks at the whole log again. The contract of `refusal` cites specs/Judgement.antt and specs/OnRows.antt, those of its
 // parts specs/Parts.antt.
+#![tactic(auto)]
+
 mod log;
 mod orders;
 

@@ -1,6 +1,8 @@
 // A post's record lent by the host, who finds it brought up to date; for C and Rust. Each function takes the record out, has
 // the step by value run on it, and stores the post that the step leaves: a refusal leaves record and buffer as they were.
 // The contracts cite `single`'s specs/Single.antt, and `told`'s specs/Told.antt for the answer as one number.
+#![tactic(auto)]
+
 mod by_value;
 
 ghost use Rattle.std.specs.Prelude.{◌≡◌};
@@ -11,22 +13,21 @@ ghost use Rattle.lent_post.specs.Lent.{fresh_kept};
 use post::Post;
 
 // The refusal's number or 0, and the record after it.
-#[derive(Drop)]
+#[derive(Clone, Copy)]
 pub(crate) struct Made {
     pub refusal: u8,
     pub post: Post,
 }
 
 // An answer as one number, and the post after the step.
-#[derive(Drop)]
+#[derive(Clone, Copy)]
 pub(crate) struct Stepped {
     pub answer: u64,
     pub post: Post,
 }
 
 // Makes the record a fresh post by lane and roles: 0, or the refusal (12, 21) with the record as it was.
-#[unsafe(no_mangle)]
-pub extern "C" fn drift_post_fresh(p: &mut Post, lane: u8, posts: u8, sources: u8, dests: u8) -> u8
+pub fn drift_post_fresh(p: &mut Post, lane: u8, posts: u8, sources: u8, dests: u8) -> u8
     ensures { (result ≡ fresh_refusal lane posts sources dests) × (p.new ≡ fresh_kept p.old lane posts sources dests) }
 {
     let before = *p;
@@ -36,8 +37,7 @@ pub extern "C" fn drift_post_fresh(p: &mut Post, lane: u8, posts: u8, sources: u
 }
 
 // The post sends an order (6, 12, 21 to 24); its broadcast goes into the buffer.
-#[unsafe(no_mangle)]
-pub extern "C" fn drift_post_order(p: &mut Post, word: u16, buffer: &mut [u8]) -> u64
+pub fn drift_post_order(p: &mut Post, word: u16, buffer: &mut [u8]) -> u64
     ensures { (result ≡ order_told (order_singly p.old word buffer.old).answer)
         × ((p.new ≡ (order_singly p.old word buffer.old).post)
         × (buffer.new ≡ order_buffer p.old word buffer.old)) }
@@ -49,8 +49,7 @@ pub extern "C" fn drift_post_order(p: &mut Post, word: u16, buffer: &mut [u8]) -
 }
 
 // The post hears a frame (6 to 12, 21, 24, 26, 28 to 30); its broadcast, if the order is taken, goes into the buffer.
-#[unsafe(no_mangle)]
-pub extern "C" fn drift_post_hear(p: &mut Post, frame: &[u8], buffer: &mut [u8]) -> u64
+pub fn drift_post_hear(p: &mut Post, frame: &[u8], buffer: &mut [u8]) -> u64
     ensures { (result ≡ hear_told (hear_singly p.old frame.now buffer.old).answer)
         × ((p.new ≡ (hear_singly p.old frame.now buffer.old).post)
         × (buffer.new ≡ hear_buffer p.old frame.now buffer.old)) }
@@ -62,8 +61,7 @@ pub extern "C" fn drift_post_hear(p: &mut Post, frame: &[u8], buffer: &mut [u8])
 }
 
 // The post sends a beacon (6, 12, 21), which goes into the buffer; the record stays as it is.
-#[unsafe(no_mangle)]
-pub extern "C" fn drift_post_beacon(p: &Post, buffer: &mut [u8]) -> u8
+pub fn drift_post_beacon(p: &Post, buffer: &mut [u8]) -> u8
     ensures { (result ≡ beacon_refusal_singly p.now buffer.old) × (buffer.new ≡ beacon_buffer p.now buffer.old) }
 {
     let post = *p;

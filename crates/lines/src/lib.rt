@@ -1,10 +1,12 @@
 // A script's lines as they are read. specs/ defines the forms, how they are read, and refusals 1 to 5; the crate `reader` reads.
+#![tactic(auto)]
+
 ghost use Rattle.std.specs.Prelude.{◌≡◌};
 ghost use Rattle.lines.specs.Lines.{number_of, next_of};
 
 // How far a yard line was read: its posts, sources and destinations so far as sets of eight bits, and whether its lanes
 // rise and are at most 7.
-#[derive(Drop)]
+#[derive(Clone, Copy)]
 pub struct YardScan {
     pub ok: bool,
     pub at: usize,
@@ -15,7 +17,7 @@ pub struct YardScan {
 }
 
 // A line as it was read, with the place of the line after it, or the number that it is refused by (2 to 5).
-#[derive(Drop)]
+#[derive(Clone, Copy)]
 pub enum Line {
     Yard {
         posts: u8,
@@ -44,7 +46,7 @@ pub enum Line {
 }
 
 // The first refused line and its number; number 0 for a script that is not refused, beside how many lines it has.
-#[derive(Drop)]
+#[derive(Clone, Copy)]
 pub struct Judged {
     pub line: u16,
     pub number: u8,

@@ -1,5 +1,7 @@
 // The newest entries of a row's table, which each broadcast of its post carries. The contract of `newest_entries` cites
 // specs/OnRows.antt, those of the loops specs/Loops.antt.
+#![tactic(auto)]
+
 ghost use Rattle.std.specs.Prelude.{◌≡◌, cond, ◌+◌, ◌-◌, ◌<◌, ◌≤◌, max, eqb, length};
 ghost use Rattle.frame.specs.Layout.{no_entry};
 ghost use Rattle.post.specs.Newest.{newest, newest_entries};

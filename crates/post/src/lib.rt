@@ -1,4 +1,6 @@
 // A post's record. The contract cites specs/Record.antt; the other definitions of a post's parts stand beside it.
+#![tactic(auto)]
+
 ghost use Rattle.std.specs.Prelude.{◌≡◌};
 ghost use Rattle.post.specs.Record.{fresh_post};
 
@@ -9,7 +11,7 @@ use frame::{Frame, Serial, Stamp};
 // the last serial taken; the newest-stamp table, 8 lanes by 17 serials; the orders taken, stamp and word at place
 // 16 × lane + serial − 1; the log, as places, and its length. Hosts lend it: laid out as in C, 928 bytes without a gap.
 #[repr(C)]
-#[derive(Drop)]
+#[derive(Clone, Copy)]
 pub struct Post {
     pub lane: u8,
     pub posts: u8,

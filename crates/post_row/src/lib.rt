@@ -1,5 +1,7 @@
 // A post's record put into a row, and the record of a row: what a record keeps in a byte is a whole cell of the row. Total:
 // a row that is cut short takes no record, and gives one of zeros. The contracts cite specs/Records.antt.
+#![tactic(auto)]
+
 ghost use Rattle.std.specs.Prelude.{◌≡◌, map, ◌≤◌, length};
 ghost use Rattle.row.specs.Rows.{post_in, known_in, past_in};
 ghost use Rattle.post_row.specs.Records.{byte_of, with_numbers, loaded_in, record_in};
@@ -26,7 +28,7 @@ pub fn load(row: &mut [u16], p: Post)
 }
 
 fn load_numbers(row: &mut [u16], p: Post)
-    requires* { do ⌜ 543 ≤ (← ⟦row.len()⟧) ⌝ }
+    requires { 543 ≤ length row.old }
     ensures row_after { post_in row.new ≡ with_numbers (post_in row.old) p }
     ensures known { known_in row.new ≡ known_in row.old }
     ensures past { past_in row.new ≡ past_in row.old }

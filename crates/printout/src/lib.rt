@@ -1,5 +1,7 @@
 // The lines of the printout into a lent buffer. The contracts cite Texts.antt of the crate `meaning`; those of private
 // functions cite specs/Items.antt besides.
+#![tactic(auto)]
+
 ghost use Rattle.std.specs.Prelude.{◌≡◌, length};
 ghost use Rattle.roll.specs.Logs.{order_at};
 ghost use Rattle.row.specs.Rows.{post_in};

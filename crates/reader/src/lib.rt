@@ -1,5 +1,7 @@
 // Reads a script line by line, and judges it by refusals 1 to 5. The contracts cite the definitions of the crate `lines`:
 // Lines.antt and Values.antt, and for the private parts Forms.antt besides.
+#![tactic(auto)]
+
 mod forms;
 mod line_forms;
 

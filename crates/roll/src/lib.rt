@@ -1,6 +1,8 @@
 // The roll call on a yard's state: the list of single steps of document 01, run one after another. The contract of `call` cites
 // specs/Calls.antt and specs/Values.antt; those of its loops cite specs/RollCall.antt besides.
-ghost use Rattle.std.specs.Prelude.{◌≡◌, cond, [], ◌∷◌, ◌<◌, ◌≤◌, get_or};
+#![tactic(auto)]
+
+ghost use Rattle.std.specs.Prelude.{◌≡◌, cond, [], ◌∷◌, ◌<◌, ◌≤◌, get_or, length};
 ghost use Rattle.cells.specs.Sets.{has_lane};
 ghost use Rattle.yard.specs.Worlds.{hear, beacon};
 ghost use Rattle.state.specs.States.{held_in, yard_in};
@@ -14,7 +16,7 @@ use row::SerialCell;
 
 // How many single steps the call ran, or the refusal (12, 13, 27). In a state that somebody made up each own serial may be any number
 // of 16 bits, and the steps more than 65,535.
-#[derive(Drop)]
+#[derive(Clone, Copy)]
 pub enum RollAnswer {
     Called(u32),
     Refused(u8),
@@ -54,7 +56,7 @@ fn source_spent(state: &[u16]) -> bool
 
 // The call's single steps, one after another; each part answers how many it ran.
 fn run_steps(state: &mut [u16], air: &mut [u8]) -> u32
-    requires* { do ⌜ (← ⟦state.len()⟧) ≡ 4483 ⌝ }
+    requires { length state.old ≡ 4483 }
     ensures { after result state.new air.new ≡ ran_in (here_in state.old air.old) (roll_steps_in (held_in state.old) air.old) }
 {
     let present = row::get(state, state::PRESENT);
@@ -68,7 +70,7 @@ fn run_steps(state: &mut [u16], air: &mut [u8]) -> u32
 
 // Each post in rising lane order hears the first frame of every order of the other lanes.
 fn hear_orders(state: &mut [u16], air: &mut [u8], present: u16) -> u32
-    requires* { do ⌜ ((← ⟦state.len()⟧) ≡ 4483) × (present ≡ get_or state.old 0 0) ⌝ }
+    requires { (length state.old ≡ 4483) × (present ≡ get_or state.old 0 0) }
     ensures air_after { after result state.new air.new ≡ ran_in (here_in state.old air.old) (posts_hear (yard_in state.old) 8) }
     ensures bound { result ≤ 4194240 }
 {
@@ -81,7 +83,7 @@ fn hear_orders(state: &mut [u16], air: &mut [u8], present: u16) -> u32
 
 // The post of lane p, if there is one, hears those of each other lane.
 fn hear_lanes(state: &mut [u16], air: &mut [u8], present: u16, p: u8) -> u32
-    requires* { do ⌜ (← ⟦state.len()⟧) ≡ 4483 ⌝ }
+    requires { length state.old ≡ 4483 }
     ensures air_after { after result state.new air.new ≡ ran_in (here_in state.old air.old) (cond (has_lane present p) (lanes_hears (yard_in state.old) p 8) []) }
     ensures bound { result ≤ 524280 }
 {
@@ -97,7 +99,7 @@ fn hear_lanes(state: &mut [u16], air: &mut [u8], present: u16, p: u8) -> u32
 
 // It hears those of lane q, if that is another lane, serials rising.
 fn hear_lane(state: &mut [u16], air: &mut [u8], p: u8, q: u8) -> u32
-    requires* { do ⌜ ((← ⟦state.len()⟧) ≡ 4483) × (q < 8) ⌝ }
+    requires { (length state.old ≡ 4483) × (q < 8) }
     ensures air_after { after result state.new air.new ≡ ran_in (here_in state.old air.old) (lane_heard (yard_in state.old) p q) }
     ensures bound { result ≤ 65535 }
 {

@@ -1,6 +1,8 @@
 // A post's record in one lent row of cells: reads and writes that never leave it. A read outside a part gives 0, a write
 // outside changes nothing, so every function is defined for every row and no caller owes a bound. The contracts cite
 // specs/Rows.antt, which has the layout.
+#![tactic(auto)]
+
 ghost use Rattle.std.specs.Prelude.{◌≡◌, get_or, set};
 ghost use Rattle.cells.specs.Tables.{entry_place, order_place};
 ghost use Rattle.post.specs.Record.{last_of, with_log};
@@ -10,11 +12,11 @@ ghost use Rattle.row.specs.Rows.{part, put_in, post_in, known_in, past_in, numbe
 use frame::{Frame, Serial, Stamp};
 
 // A serial as a cell holds it: in a row that somebody made up it may be any number of 16 bits.
-#[derive(Drop)]
+#[derive(Clone, Copy)]
 pub struct SerialCell(pub u16);
 
 // The numbers of a record: lane, sets of lanes, clock, own serial, and the length of the log.
-#[derive(Drop)]
+#[derive(Clone, Copy)]
 pub struct Numbers {
     pub lane: u16,
     pub posts: u16,

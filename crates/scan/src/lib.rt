@@ -1,10 +1,12 @@
 // Reads a text from a place on: what stands there, and numerals. A scan that fails stays where it is, and a byte past the end
 // is 0, so nothing owes a bound. The contracts cite specs/Scan.antt.
+#![tactic(auto)]
+
 ghost use Rattle.std.specs.Prelude.{◌≡◌, true, ◌&&◌, ◌+◌, ◌≤◌, ◌<◌, leb, length, get_or};
 ghost use Rattle.scan.specs.Scan.{same_bytes, stands, start_at, failed, read_text, first_digit, next_digit, read_number};
 
 // How far a text was read: whether all was of the form so far, the place reached, and the last two numbers read.
-#[derive(Drop)]
+#[derive(Clone, Copy)]
 pub struct Scan {
     pub ok: bool,
     pub at: usize,

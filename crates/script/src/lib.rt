@@ -1,5 +1,7 @@
 // Runs a script over a fresh yard and the air lent for it: printed into the output lent for it, or left in the state lent for it.
 // The contracts cite specs/Run.antt and specs/State.antt; meaning/specs/Script.antt says what a script prints.
+#![tactic(auto)]
+
 mod line_steps;
 mod posts;
 
@@ -15,7 +17,7 @@ ghost use Rattle.script.specs.State.{state_told, state_held, state_air};
 ghost use Rattle.script.specs.OnState.{rest, here_after, refused_in, last_in, script_here};
 
 // The lanes that have a post, the sources and the destinations among them.
-#[derive(Drop)]
+#[derive(Clone, Copy)]
 pub(crate) struct Sets {
     pub present: u8,
     pub sources: u8,
@@ -23,7 +25,7 @@ pub(crate) struct Sets {
 }
 
 // The position in the output after the lines run so far, and the answer of the last one.
-#[derive(Drop)]
+#[derive(Clone, Copy)]
 struct Ran {
     pub to: usize,
     pub answer: u64,
@@ -37,8 +39,7 @@ const UNWRITTEN: u16 = 1;
 
 // Runs a script: the number of bytes printed, or 0 where the output has not 131,072 bytes and all stays as it was. An air
 // of another length than 65,536 bytes is what the steps meet (13).
-#[unsafe(no_mangle)]
-pub extern "C" fn drift_run_script(script: &[u8], air: &mut [u8], output: &mut [u8]) -> usize
+pub fn drift_run_script(script: &[u8], air: &mut [u8], output: &mut [u8]) -> usize
     ensures value { result ≡ bytes_printed script.now air.old output.old }
     ensures printed { output.new ≡ output_after script.now air.old output.old }
     ensures bytes { air.new ≡ air_left script.now air.old output.old }
@@ -56,8 +57,7 @@ pub extern "C" fn drift_run_script(script: &[u8], air: &mut [u8], output: &mut [
 
 // Runs a script and leaves its yard in the state: the answer of its last line as one number. A state that has not 4,483
 // cells, or a script that is refused by 1 to 5, is told, and all stays as it was.
-#[unsafe(no_mangle)]
-pub extern "C" fn drift_script_state(script: &[u8], air: &mut [u8], state: &mut [u16]) -> u64
+pub fn drift_script_state(script: &[u8], air: &mut [u8], state: &mut [u16]) -> u64
     ensures value { result ≡ state_told script.now air.old state.old }
     ensures held { held_in state.new ≡ state_held script.now air.old state.old }
     ensures bytes { air.new ≡ state_air script.now air.old state.old }

@@ -1,6 +1,8 @@
 // A post run singly: the entries for hosts and firmware. Each judges everything that it is handed, the record too (12),
 // and a refusal leaves post and buffer as they were. The record is put into a row, the step runs there, and the row's record
 // is handed back. With no broadcast the frame has kind 0, which is not written. The contracts cite specs/Single.antt.
+#![tactic(auto)]
+
 ghost use Rattle.std.specs.Prelude.{◌≡◌};
 ghost use Rattle.steps.specs.Answers.{order_number, hear_number, beacon_number};
 ghost use Rattle.steps.specs.Values.{order_serial, order_stamp, order_count, hear_count};
@@ -11,21 +13,21 @@ use post::Post;
 use steps::{BeaconAnswer, HearAnswer, OrderAnswer};
 
 // A fresh post and 0, or the refusal (12, 21) and a record of zeros.
-#[derive(Drop)]
+#[derive(Clone, Copy)]
 pub struct FreshPost {
     pub refusal: u8,
     pub post: Post,
 }
 
 // What an order answers, and the post after it.
-#[derive(Drop)]
+#[derive(Clone, Copy)]
 pub struct Ordered {
     pub answer: OrderAnswer,
     pub post: Post,
 }
 
 // What a hearing answers, and the post after it.
-#[derive(Drop)]
+#[derive(Clone, Copy)]
 pub struct Heard {
     pub answer: HearAnswer,
     pub post: Post,

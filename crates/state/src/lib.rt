@@ -1,5 +1,7 @@
 // A yard in one lent state of cells, and a fresh yard laid into it. Total: any cells, any sets, and a refusal leaves the state
 // as it was. The contract cites specs/Fresh.antt; specs/States.antt has the layout.
+#![tactic(auto)]
+
 mod making;
 
 ghost use Rattle.std.specs.Prelude.{◌≡◌};

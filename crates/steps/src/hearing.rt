@@ -1,5 +1,5 @@
 // The hear step's refusals 21, 24, 26 and 28 to 30, and its parts 1 to 3.
-ghost use Rattle.std.specs.Prelude.{◌≡◌, true, not, ◌&&◌, ◌<◌, ◌≤◌, max, ltb, leb, get_or};
+ghost use Rattle.std.specs.Prelude.{◌≡◌, true, not, ◌&&◌, ◌<◌, ◌≤◌, max, ltb, leb, get_or, length};
 ghost use Rattle.cells.specs.Sets.{has_lane};
 ghost use Rattle.cells.specs.Tables.{order_place};
 ghost use Rattle.frame.specs.Layout.{entry_of};
@@ -138,7 +138,7 @@ fn own_entry(f: Frame, lane: u16) -> Entry
 
 // Part 1: each entry raises the table.
 pub(crate) fn raise_all(row: &mut [u16], entries: [Entry; Frame::LANES])
-    requires* { do ⌜ 543 ≤ (← ⟦row.len()⟧) ⌝ }
+    requires { 543 ≤ length row.old }
     ensures row_after { post_in row.new ≡ with_table (post_in row.old) (raised_below (post_in row.old).table entries 8) }
     ensures known { known_in row.new ≡ known_in row.old }
     ensures past { past_in row.new ≡ past_in row.old }
@@ -147,7 +147,7 @@ pub(crate) fn raise_all(row: &mut [u16], entries: [Entry; Frame::LANES])
 }
 
 fn raise_table(table: &mut [u16], entries: [Entry; Frame::LANES])
-    requires* { do ⌜ (← ⟦table.len()⟧) ≡ 136 ⌝ }
+    requires { length table.old ≡ 136 }
     ensures { table.new ≡ raised_below table.old entries 8 }
 {
     for lane in 0..Frame::LANES {
@@ -157,7 +157,7 @@ fn raise_table(table: &mut [u16], entries: [Entry; Frame::LANES])
 
 // Nothing is written where the stamp is not larger: most entries of a frame are known. A serial over 16 has no entry.
 fn raise(table: &mut [u16], lane: usize, e: Entry)
-    requires* { do ⌜ ((← ⟦table.len()⟧) ≡ 136) × (lane < 8) ⌝ }
+    requires { (length table.old ≡ 136) × (lane < 8) }
     ensures { table.new ≡ raised table.old lane e }
 {
     if e.serial.0 > Serial::LAST {
@@ -171,7 +171,7 @@ fn raise(table: &mut [u16], lane: usize, e: Entry)
 
 // Part 3, once the entries have raised the table: the order is taken, and broadcast under the post's own lane as sender.
 pub(crate) fn take(row: &mut [u16], f: Frame) -> Frame
-    requires* { do ⌜ (543 ≤ (← ⟦row.len()⟧)) × ((post_in row.old).lane < 8) × (has_lane (post_in row.old).sources (post_in row.old).lane ≡ true → max (post_in row.old).clock.0 f.stamp.0 < 65535) ⌝ }
+    requires { (543 ≤ length row.old) × ((post_in row.old).lane < 8) × (has_lane (post_in row.old).sources (post_in row.old).lane ≡ true → max (post_in row.old).clock.0 f.stamp.0 < 65535) }
     ensures value { result ≡ order_frame (taken_raised (post_in row.old) f) f.lane f.serial.0 f.stamp.0 f.word }
     ensures post { post_in row.new ≡ taken_raised (post_in row.old) f }
     ensures known { known_in row.new ≡ known_in row.old }
@@ -196,7 +196,7 @@ pub(crate) fn take(row: &mut [u16], f: Frame) -> Frame
 
 // The order is kept, and the clock of a source passes its stamp.
 fn keep_and_tick(row: &mut [u16], f: Frame)
-    requires* { do ⌜ (543 ≤ (← ⟦row.len()⟧)) × (has_lane (post_in row.old).sources (post_in row.old).lane ≡ true → max (post_in row.old).clock.0 f.stamp.0 < 65535) ⌝ }
+    requires { (543 ≤ length row.old) × (has_lane (post_in row.old).sources (post_in row.old).lane ≡ true → max (post_in row.old).clock.0 f.stamp.0 < 65535) }
     ensures row_after { post_in row.new ≡ taken_raised (post_in row.old) f }
     ensures known { known_in row.new ≡ known_in row.old }
     ensures past { past_in row.new ≡ past_in row.old }

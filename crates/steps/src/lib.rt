@@ -1,6 +1,8 @@
 // The steps of one post on its row, without the judgement of the record (12): total, and defined for every row. What is known of
 // the log stands in the row. Hosts use the crate `single`, which judges first. The contracts cite specs/Knowing.antt, specs/Steps.antt
 // and specs/Values.antt.
+#![tactic(auto)]
+
 mod hearing;
 mod ordering;
 
@@ -15,7 +17,7 @@ ghost use Rattle.steps.specs.Knowing.{stepped, orders_by, order_count_by, hears_
 use frame::{Frame, Serial, Stamp};
 
 // What an order answers: its serial, its stamp and the count delivered, or the refusal.
-#[derive(Drop)]
+#[derive(Clone, Copy)]
 pub enum OrderAnswer {
     Sent {
         serial: Serial,
@@ -26,7 +28,7 @@ pub enum OrderAnswer {
 }
 
 // What a hearing answers, with the count delivered, or the refusal.
-#[derive(Drop)]
+#[derive(Clone, Copy)]
 pub enum HearAnswer {
     Taken(u8),
     Again(u8),
@@ -36,28 +38,28 @@ pub enum HearAnswer {
 }
 
 // What a beacon answers: no more than "sent", or the refusal.
-#[derive(Drop)]
+#[derive(Clone, Copy)]
 pub enum BeaconAnswer {
     Sent,
     Refused(u8),
 }
 
 // What an order answers, and the broadcast, which is no frame (kind 0) where there is none.
-#[derive(Drop)]
+#[derive(Clone, Copy)]
 pub struct RowOrdered {
     pub answer: OrderAnswer,
     pub frame: Frame,
 }
 
 // What a hearing answers, and the broadcast.
-#[derive(Drop)]
+#[derive(Clone, Copy)]
 pub struct RowHeard {
     pub answer: HearAnswer,
     pub frame: Frame,
 }
 
 // What a beacon answers, and the broadcast.
-#[derive(Drop)]
+#[derive(Clone, Copy)]
 pub struct Beaconed {
     pub answer: BeaconAnswer,
     pub frame: Frame,

@@ -1,5 +1,5 @@
 // The order step's refusals 21 to 24, and what it does where none of them holds.
-ghost use Rattle.std.specs.Prelude.{◌≡◌, ◌<◌, ◌≤◌};
+ghost use Rattle.std.specs.Prelude.{◌≡◌, ◌<◌, ◌≤◌, length};
 ghost use Rattle.post.specs.Taking.{own_taken};
 ghost use Rattle.row.specs.Rows.{post_in, known_in, past_in};
 ghost use Rattle.steps.specs.Refusals.{order_refusal};
@@ -28,7 +28,7 @@ pub(crate) fn refusal(row: &[u16]) -> u8
 
 // The post takes its own order, and broadcasts it.
 pub(crate) fn send(row: &mut [u16], word: u16) -> Frame
-    requires* { do ⌜ (543 ≤ (← ⟦row.len()⟧)) × ((post_in row.old).lane < 8) × ((post_in row.old).clock.0 < 65535) × ((post_in row.old).serial.0 < 16) ⌝ }
+    requires { (543 ≤ length row.old) × ((post_in row.old).lane < 8) × ((post_in row.old).clock.0 < 65535) × ((post_in row.old).serial.0 < 16) }
     ensures value { result ≡ (order_sent (post_in row.old) word).frame }
     ensures post { post_in row.new ≡ own_taken (post_in row.old) word }
     ensures known { known_in row.new ≡ known_in row.old }

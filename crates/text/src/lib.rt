@@ -1,5 +1,7 @@
 // Text into a lent buffer, from a position on; each function answers the position after what it wrote. What does not fit
 // is lost, and the position stays at the buffer's end. The contracts cite specs/Writing.antt and specs/Decimal.antt.
+#![tactic(auto)]
+
 ghost use Rattle.std.specs.Prelude.{◌≡◌, [], ◌∷◌, ◌++◌};
 ghost use Rattle.text.specs.Decimal.{given, digit_byte, decimal};
 ghost use Rattle.text.specs.Writing.{out, wrote};

@@ -1,4 +1,6 @@
 // An answer as one number, for programs in C: specs/Told.antt.
+#![tactic(auto)]
+
 ghost use Rattle.std.specs.Prelude.{◌≡◌, ◌%◌};
 ghost use Rattle.steps.specs.Answers.{order_number, hear_number, beacon_number};
 ghost use Rattle.told.specs.Told.{told, order_told, hear_told, beacon_told};

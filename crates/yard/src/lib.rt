@@ -1,5 +1,7 @@
 // The yard in one lent state: order, hear and beacon in place. Every function is total: any cells, any air, any arguments, and a
 // refusal leaves state and air as they were. The contracts cite specs/InState.antt, and specs/Answers.antt for what a step answers.
+#![tactic(auto)]
+
 mod parts;
 
 ghost use Rattle.std.specs.Prelude.{◌≡◌};

@@ -1,5 +1,5 @@
 // What the steps of a yard are made of: the frame read from the air for a post, the broadcast put on it, what is noted of it.
-ghost use Rattle.std.specs.Prelude.{◌≡◌, cond, ◌&&◌, ltb, eqb, get_or, set};
+ghost use Rattle.std.specs.Prelude.{◌≡◌, cond, ◌&&◌, ltb, eqb, get_or, set, length};
 ghost use Rattle.air.specs.Air.{frames_with};
 ghost use Rattle.cells.specs.Tables.{order_place};
 ghost use Rattle.row.specs.Rows.{put_in, post_in};
@@ -38,7 +38,7 @@ fn absent(row: &[u16], number: u8) -> u8
 
 // Puts f on the air as its next frame, and counts it; most hearings broadcast nothing (kind 0).
 pub(crate) fn broadcast(state: &mut [u16], air: &mut [u8], f: Frame)
-    requires* { do ⌜ (← ⟦air.len()⟧) ≡ 65536 ⌝ }
+    requires { length air.old ≡ 65536 }
     ensures state_after { state.new ≡ set state.old 2 (frames_after air.old (get_or state.old 2 0) f) }
     ensures bytes { air.new ≡ frames_with air.old (get_or state.old 2 0) f }
 {

@@ -5,7 +5,7 @@ use lib.ListN.{length}
 use lib.Seq.{sets}
 use Rattle.row.specs.declared.Numbers.{Numbers}
 use Rattle.row.specs.Rows.{post_in}
-use Rattle.csv.specs.Log.{item_numbers}
+use Rattle.csv_log.specs.Log.{item_numbers}
 use Rattle.printout.proofs.Laws.{tests_hold}
 use Rattle.commands.proofs.LogNumbers.{first_numbers, numbers_more, whole_log, numbers_done}
 use borrow.Author.Rules.{rules}

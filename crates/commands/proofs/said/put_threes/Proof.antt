@@ -3,7 +3,7 @@ use mathlib.Core.Path.{◌≡◌, refl, ◌∙◌}
 use Prim.Native.Nat.{◌-◌, ◌≤◌}
 use lib.ListN.{length}
 use Rattle.text.specs.Writing.{out}
-use Rattle.csv.proofs.HandedLaws.{Putting, putting_next, putting_end}
+use Rattle.csv_log.proofs.HandedLaws.{Putting, putting_next, putting_end}
 use Rattle.commands.specs.Csv.{log_item_text}
 use borrow.Author.Rules.{rules}
 use Rattle.commands.proofs.said.put_threes.Statement.{statement}

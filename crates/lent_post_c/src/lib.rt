@@ -1,0 +1,46 @@
+// The steps of `lent_post` for firmware in C and hosts in Rust, by the names of c/drift_post.h: each export calls the function
+// of its name.
+#![tactic(auto)]
+
+ghost use Rattle.std.specs.Prelude.{◌≡◌};
+ghost use Rattle.single.specs.Single.{fresh_refusal, order_singly, order_buffer, hear_singly, hear_buffer, beacon_refusal_singly, beacon_buffer};
+ghost use Rattle.told.specs.Told.{order_told, hear_told};
+ghost use Rattle.lent_post.specs.Lent.{fresh_kept};
+
+use post::Post;
+
+// Makes the record a fresh post by lane and roles: 0, or the refusal (12, 21) with the record as it was.
+#[unsafe(no_mangle)]
+pub extern "C" fn drift_post_fresh(p: &mut Post, lane: u8, posts: u8, sources: u8, dests: u8) -> u8
+    ensures { (result ≡ fresh_refusal lane posts sources dests) × (p.new ≡ fresh_kept p.old lane posts sources dests) }
+{
+    lent_post::drift_post_fresh(p, lane, posts, sources, dests)
+}
+
+// The post sends an order (6, 12, 21 to 24); its broadcast goes into the buffer.
+#[unsafe(no_mangle)]
+pub extern "C" fn drift_post_order(p: &mut Post, word: u16, buffer: &mut [u8]) -> u64
+    ensures { (result ≡ order_told (order_singly p.old word buffer.old).answer)
+        × ((p.new ≡ (order_singly p.old word buffer.old).post)
+        × (buffer.new ≡ order_buffer p.old word buffer.old)) }
+{
+    lent_post::drift_post_order(p, word, buffer)
+}
+
+// The post hears a frame (6 to 12, 21, 24, 26, 28 to 30); its broadcast, if the order is taken, goes into the buffer.
+#[unsafe(no_mangle)]
+pub extern "C" fn drift_post_hear(p: &mut Post, frame: &[u8], buffer: &mut [u8]) -> u64
+    ensures { (result ≡ hear_told (hear_singly p.old frame.now buffer.old).answer)
+        × ((p.new ≡ (hear_singly p.old frame.now buffer.old).post)
+        × (buffer.new ≡ hear_buffer p.old frame.now buffer.old)) }
+{
+    lent_post::drift_post_hear(p, frame, buffer)
+}
+
+// The post sends a beacon (6, 12, 21), which goes into the buffer; the record stays as it is.
+#[unsafe(no_mangle)]
+pub extern "C" fn drift_post_beacon(p: &Post, buffer: &mut [u8]) -> u8
+    ensures { (result ≡ beacon_refusal_singly p.now buffer.old) × (buffer.new ≡ beacon_buffer p.now buffer.old) }
+{
+    lent_post::drift_post_beacon(p, buffer)
+}

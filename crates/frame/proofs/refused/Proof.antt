@@ -1,9 +1,0 @@
-use borrow.Author.Rules.{rules}
-use Rattle.frame.proofs.refused.Statement.{statement}
-use Rattle.frame.proofs.refused.Tie as tie
-
-returns : tie.Need-returns
-returns c = rw c.none.ensures
-
-pub refused_spec : {M : Type 1} → statement M
-refused_spec = tie.close (tie.spec (λ c κs. search rules) returns)

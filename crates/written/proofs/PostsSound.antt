@@ -29,9 +29,9 @@ module _ (s : List ℕ) (from : ℕ) where
       × Here s from (post_texts posts sources dests 8) × (at ≡ from + length (post_texts posts sources dests 8))
 
   -- before the first post
-  pub no_posts : (at : ℕ) → from ≤ length s → at ≡ from → Posts 0 0 0 at
+  pub no_posts_lem : (at : ℕ) → from ≤ length s → at ≡ from → Posts 0 0 0 at
   unfolding Posts Here post_texts
-  no_posts at h e = (omega arith, omega arith, omega arith, (λ i k. k), (λ i k. k), (omega arith, λ i l. absurd (omega arith)), omega arith)
+  no_posts_lem at h e = (omega arith, omega arith, omega arith, (λ i k. k), (λ i k. k), (omega arith, λ i l. absurd (omega arith)), omega arith)
 
   with_lt : (set lane : ℕ) (test : Bool) → set < 256 → with_lane set test lane < 256
   with_lt set lane test h = or_lt 8 set (cond test (bit_of lane) 0) h (go test)

@@ -21,7 +21,7 @@ use Rattle.scan.proofs.Number.{done}
 use Rattle.scan.proofs.Reading.{text_sound, text_complete}
 use Rattle.written.proofs.Steps.{yard_only}
 use Rattle.written.proofs.Sound.{Written, Sound, line_sound}
-use Rattle.written.proofs.PostsSound.{Posts, ReadPosts, posts_sound, no_posts}
+use Rattle.written.proofs.PostsSound.{Posts, ReadPosts, posts_sound, no_posts_lem}
 use Rattle.written.proofs.PostsComplete.{posts_complete}
 
 abbrev yard_text : ℕ → ℕ → ℕ → List ℕ
@@ -51,7 +51,7 @@ line_is s at k r =
     let c = read_text s (bytes "(yard") (start_at at) in
     let e = text_sound s (bytes ")\n") (scan_of (yard_posts s at)) k in
     let b = text_sound s (bytes "(yard") (start_at at) (ok_back s (no_posts c) (length s) e.0) in
-    let first : ReadPosts s (at + 5) (no_posts c) = λ o q. no_posts s (at + 5) c.at b.1.0 (ap (λ (x : Scan). x.at) b.2) in
+    let first : ReadPosts s (at + 5) (no_posts c) = λ o q. no_posts_lem s (at + 5) c.at b.1.0 (ap (λ (x : Scan). x.at) b.2) in
     (posts_sound s (at + 5) (no_posts c) (length s) first e.0 r, b.1, e.1, ap (λ (x : Scan). x.at) e.2)
 
 written_yard : (s : List ℕ) (at p so d mid next : ℕ) → at ≡ 0 → 0 < p → Posts s (at + 5) p so d mid → Here s at (bytes "(yard") → Here s mid (bytes ")\n")

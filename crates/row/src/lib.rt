@@ -149,7 +149,7 @@ pub fn stamp_at(row: &[u16], place: usize) -> Stamp
 }
 
 // Where entry (lane, serial) stands in the newest-stamp table: past its end for a serial over 16.
-fn entry_place_lem(lane: u16, serial: SerialCell) -> usize
+fn entry_place(lane: u16, serial: SerialCell) -> usize
     ensures { result ≡ entry_place lane serial.0 }
 {
     if serial.0 <= LAST_SERIAL {
@@ -189,7 +189,7 @@ pub fn keep(row: &mut [u16], lane: u8, serial: Serial, stamp: Stamp, word: u16)
 pub fn tick(row: &mut [u16], serial: SerialCell, clock: Stamp)
     ensures { row.new ≡ ticked_row row.old serial.0 clock.0 }
 {
-    let place = entry_place_lem(get(row, LANE), serial);
+    let place = entry_place(get(row, LANE), serial);
     put(row, CLOCK, clock.0);
     put(row, SERIAL, serial.0);
     put_in(row, TABLE, ENTRIES, place, clock.0);

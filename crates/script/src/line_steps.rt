@@ -62,7 +62,7 @@ pub(crate) fn run_step(state: &mut [u16], air: &mut [u8], l: Line) -> u64
             sources: _,
             dests: _,
             next: _,
-        } => no_step_lem(),
+        } => no_step(),
         Line::Order {
             lane,
             word,
@@ -79,11 +79,11 @@ pub(crate) fn run_step(state: &mut [u16], air: &mut [u8], l: Line) -> u64
             lane as usize,
         )),
         Line::Roll { next: _ } => roll_told(roll::call(state, air)),
-        Line::Refused(_) => no_step_lem(),
+        Line::Refused(_) => no_step(),
     }
 }
 
-fn no_step_lem() -> u64
+fn no_step() -> u64
     ensures value { result ≡ no_step }
     ensures number { result % 256 ≡ 0 }
 {

@@ -1,0 +1,20 @@
+use mathlib.Core.Path.{refl}
+use Rattle.lines.specs.Lines.{roll_line}
+use Rattle.scan.specs.declared.Scan.{Scan}
+use Rattle.reader.proofs.LinesLaws.{line_yes, line_no, or_yes, or_no}
+use Rattle.reader.proofs.line_forms.roll_or_refused.Goals as goal
+
+pub returns-then-number-eq0 : goal.returns-then-number-eq0
+unfolding roll_line
+returns-then-number-eq0 c =
+    or_yes (λ (x : Scan). x.ok) (roll_line _) _ _ _ _ c.read_roll-c.ensures c.if-c.true
+    (line_yes _ _ _ _ c.step_line_refusal-number.ensures c.if-number-eq0.true)
+
+pub returns-else-number-eq0 : goal.returns-else-number-eq0
+unfolding roll_line
+returns-else-number-eq0 c =
+    or_yes (λ (x : Scan). x.ok) (roll_line _) _ _ _ _ c.read_roll-c.ensures c.if-c.true
+    (line_no _ _ _ c.step_line_refusal-number.ensures c.if-number-eq0.false)
+
+pub returns-else-c : goal.returns-else-c
+returns-else-c c = or_no (λ (x : Scan). x.ok) _ _ _ _ _ c.read_roll-c.ensures c.if-c.false refl

@@ -6,18 +6,17 @@ use mathlib.Core.List.{List}
 use Prim.Native.Nat.{ℕ, ◌<◌, ◌≤◌}
 use native.Mathlib.Omega.{arith}
 use native.Mathlib.Decide.{dec_lt}
-use borrow.Author.Rules.{elem_fits_field}
+use borrow.Author.Rules.{elem_Fits}
 use borrow.Author.Tests.{le-leb}
 use mir.Syntax.{w16}
 use mir.Val.{Val}
 use denote.Shadow.{shadow}
-use denote.Struct.Declared.{row}
-use lib.ListN.{length, get_or, replicate, length-map, get_or-eq_default}
+use lib.ListN.{length, get_or, replicate, get_or-eq_default}
 use Rattle.frame.specs.declared.Frame.{Frame}
 use Rattle.frame.specs.Refusals.{frame_refusal}
 use Rattle.frame.specs.Types.{Typed}
 use Rattle.post.specs.declared.Post.{Post}
-use Rattle.post.specs.contracts.Post.{the_type}
+use Rattle.post.specs.contracts.Post.{the_row}
 use Rattle.row.specs.Rows.{post_in, known_in}
 use Rattle.post_row.specs.Records.{loaded_in, record_in, Fits}
 use Rattle.post_row.proofs.Storing.{stored_whole}
@@ -37,19 +36,18 @@ use Rattle.laws.proofs.StepLaws.{order_judged, hear_judged}
 
 -- ---- what the type `Post` says of a record
 
-pub of_type : (p : Post) (us : List Val) → shadow ((row the_type).own p us) → Shaped p
+pub of_type : (p : Post) (us : List Val) → shadow (the_row.own_val p us) → Shaped p
 of_type p us h =
-    let n = h.1 in
-    let a = n.1.1.1.1.1.1.1.1 in
+    let a = h.1.1.1.1.1.1.1.1 in
     record {
-      last = simp length-map at a.0.1.0.1;
-      table = simp length-map at a.1.0.1.0.1;
-      stamps = simp length-map at a.1.1.0.1.0.1;
-      words = simp length-map at a.1.1.1.0.1.0.1;
-      log = simp length-map at a.1.1.1.1.0.1.0.1;
-      table_values = λ i. (elem_fits_field w16 w16 p.table _ i a.1.0.1.1 tt).fits;
-      stamp_values = λ i. (elem_fits_field w16 w16 p.stamps _ i a.1.1.0.1.1 tt).fits;
-      word_values = λ i. (elem_fits_field w16 w16 p.words _ i a.1.1.1.0.1.1 tt).fits;
+      last = a.0.1.0.1;
+      table = a.1.0.1.0.1;
+      stamps = a.1.1.0.1.0.1;
+      words = a.1.1.1.0.1.0.1;
+      log = a.1.1.1.1.0.1.0.1;
+      table_values = λ i. (elem_Fits w16 w16 p.table _ i a.1.0.1.1 tt).fits;
+      stamp_values = λ i. (elem_Fits w16 w16 p.stamps _ i a.1.1.0.1.1 tt).fits;
+      word_values = λ i. (elem_Fits w16 w16 p.words _ i a.1.1.1.0.1.1 tt).fits;
       clock = omega arith;
       posts = omega arith;
       sources = omega arith;

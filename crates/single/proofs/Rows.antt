@@ -38,7 +38,7 @@ use Rattle.laws.proofs.StepLaws.{order_judged, hear_judged}
 
 pub of_type : (p : Post) (us : List Val) → shadow (the_row.own_val p us) → Shaped p
 of_type p us h =
-    let a = h.1.1.1.1.1.1.1.1 in
+    let a = h.1.1.1.1.1.1.1.1.1 in
     record {
       last = a.0.1.0.1;
       table = a.1.0.1.0.1;

@@ -5,6 +5,4 @@ use Rattle.printout.proofs.put_refusal.Goals as goal
 
 pub returns : goal.returns
 returns c =
-    let n = c in
-    let l = n in
-    next _ _ _ (labelled _ _ (bytes " ") _ l.put-labelled.ensures n.put-labelled2.ensures) c.put_text.ensures
+    next _ _ _ (labelled _ _ (bytes " ") _ c.put_labelled-a.ensures c.put_labelled-a-2.ensures) c.put_text.ensures

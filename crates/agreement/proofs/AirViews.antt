@@ -21,7 +21,6 @@ use Rattle.yard.specs.Singles.{frames_after, frame_at}
 use Rattle.yard.specs.Worlds.{World}
 use Rattle.laws.proofs.TestLaws.{same_or_not, below_or_not}
 use Rattle.laws.proofs.Broadcasts.{Sendable}
-use Rattle.model.proofs.Model.{Frame}
 use Rattle.model.proofs.Functions.{upd, upd_same, upd_other}
 use Rattle.agreement.proofs.Views.{frame_view, no_frame_yet, air_view}
 

@@ -11,7 +11,6 @@ use lib.ListN.{length, length-replicate, get_or-eq_default}
 use borrow.Author.Tests.{ltb-true, eqb-false}
 use Rattle.frame.proofs.Laws.{passed}
 use Rattle.cells.specs.Sets.{has_lane, role_astray}
-use Rattle.post.specs.declared.Post.{Post}
 use Rattle.post.specs.Record.{fresh_post}
 use Rattle.judge.specs.Judgement.{bad_record}
 use Rattle.state.specs.Yards.{no_post, post_at, beacons_at, fresh_yard, yard_refusal}

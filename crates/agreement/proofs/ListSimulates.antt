@@ -3,7 +3,7 @@ use mathlib.Core.Path.{◌≡◌, refl, sym, ap, ◌∙◌, subst}
 use mathlib.Core.List.{List, [], ◌∷◌}
 use Prim.Native.Nat.{ℕ}
 use Rattle.yard.specs.Worlds.{World, Single, single, singles}
-use Rattle.roll.specs.RollCall.{posts_hear, roll_steps}
+use Rattle.roll.specs.RollCall.{roll_steps}
 use Rattle.model.proofs.Model as model
 use Rattle.model.proofs.RollAccepted.{Accepted}
 use Rattle.agreement.specs.Demand3.{AllAccepted}

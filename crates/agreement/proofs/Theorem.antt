@@ -32,7 +32,7 @@ use Rattle.agreement.proofs.RollViews.{count_sources, count_posts}
 use Rattle.agreement.proofs.ListSimulates.{list_accepted, roll_same}
 use Rattle.agreement.proofs.RunSimulates.{Keeps, fits, next, StepSimulates, step_simulates, roll_number_lem, roll_done, RunSimulates, run_simulates}
 use Rattle.agreement.proofs.FreshYards.{fresh_beacons, fresh_serial, fresh_view, fresh_log, roles_ok, fresh_sound, fresh_records, some_ones}
-use Rattle.agreement.proofs.WrongAir.{Refused, each_refused, never_runs, never_sends}
+use Rattle.agreement.proofs.WrongAir.{each_refused, never_runs, never_sends}
 use Rattle.agreement.proofs.Beginnings.{begin_each_other}
 use Rattle.agreement.proofs.Promises.{one_list, serials, first_frame, taken_total, beacons_total}
 

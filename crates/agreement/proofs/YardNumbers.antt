@@ -18,7 +18,6 @@ use Rattle.yard.specs.Worlds.{World}
 use Rattle.laws.proofs.TestLaws.{same_or_not, true_or_false, and_parts, and_fails}
 use Rattle.laws.proofs.Hearable.{next_is, Hearable, hear_not_refused}
 use Rattle.laws.proofs.Broadcasts.{Sendable}
-use Rattle.model.proofs.Model.{Frame}
 use Rattle.model.proofs.Invariants.{Posts, stamp_of, Sent, FrameOk, YardOk, sends_source}
 use Rattle.agreement.proofs.Views.{roles_of, frame_view, yard_view}
 use Rattle.agreement.proofs.Sound.{InYard, Sound}

@@ -1,5 +1,4 @@
 use Rattle.newest.proofs.NewestLaws.{entries_first, entries_more, entries_all}
-use Prim.Native.Nat.{◌-◌}
 use mathlib.Core.Path.{◌≡◌, refl, ◌∙◌}
 use native.Mathlib.Omega.{arith}
 use Rattle.newest.proofs.entries_of.Goals as goal

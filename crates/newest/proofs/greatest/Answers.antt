@@ -1,5 +1,4 @@
 use Rattle.newest.proofs.NewestLaws.{stamp_is_lem, greatest_one, greatest_more}
-use Prim.Native.Nat.{◌-◌}
 use mathlib.Core.Path.{◌≡◌, ap}
 use native.Mathlib.Omega.{arith}
 use Rattle.newest.proofs.greatest.Goals as goal

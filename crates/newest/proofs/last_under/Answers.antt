@@ -1,5 +1,5 @@
 use Rattle.newest.proofs.NewestLaws.{serial_is, greatest_bound, flag_of, flag_last, last_one, last_more_lem, last_bound}
-use Prim.Native.Nat.{◌-◌, ◌%◌}
+use Prim.Native.Nat.{◌%◌}
 use mathlib.Core.Path.{◌≡◌, ap, ◌∙◌}
 use native.Mathlib.Omega.{arith}
 use Rattle.newest.proofs.last_under.Goals as goal

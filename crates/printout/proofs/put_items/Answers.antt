@@ -1,7 +1,6 @@
 use Rattle.row.specs.declared.Numbers.{Numbers}
 use native.Mathlib.Omega.{arith}
 use mathlib.Core.Path.{refl, ◌∙◌, ap}
-use Prim.Native.Nat.{◌-◌}
 use Rattle.row.specs.Rows.{post_in}
 use Rattle.text.specs.Writing.{wrote}
 use Rattle.meaning.specs.Texts.{items_text}

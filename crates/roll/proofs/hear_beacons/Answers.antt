@@ -1,5 +1,4 @@
 use mathlib.Core.Path.{◌≡◌, refl, ◌∙◌}
-use Prim.Native.Nat.{◌-◌}
 use native.Mathlib.Omega.{arith}
 use Rattle.roll.specs.RollCall.{posts_hear_beacons}
 use Rattle.roll.proofs.Turns.{none_ran, posts_heard}

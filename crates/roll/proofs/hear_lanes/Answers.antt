@@ -1,6 +1,5 @@
 use mathlib.Core.Bool.{not}
 use mathlib.Core.Path.{◌≡◌, refl, ◌∙◌, ap}
-use Prim.Native.Nat.{◌-◌}
 use native.Mathlib.Omega.{arith}
 use Rattle.roll.specs.RollCall.{lanes_hears}
 use Rattle.roll.proofs.Turns.{none_ran, not_due, due, lanes_more}

@@ -1,5 +1,4 @@
 use mathlib.Core.Path.{◌≡◌, refl, sym, ◌∙◌}
-use Prim.Native.Nat.{◌-◌}
 use native.Mathlib.Omega.{arith}
 use Rattle.roll.specs.RollCall.{posts_hear}
 use Rattle.roll.proofs.Turns.{none_ran, sets_in, posts_more}

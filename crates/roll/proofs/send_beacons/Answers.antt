@@ -1,5 +1,4 @@
 use mathlib.Core.Path.{◌≡◌, refl, ◌∙◌}
-use Prim.Native.Nat.{◌-◌}
 use native.Mathlib.Omega.{arith}
 use Rattle.roll.specs.RollCall.{beacons_sent}
 use Rattle.roll.proofs.Turns.{none_ran, sent_more}

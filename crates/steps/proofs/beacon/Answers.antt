@@ -1,7 +1,6 @@
 use mathlib.Core.Bool.{not}
 use Rattle.row.specs.declared.Numbers.{Numbers}
 use mathlib.Core.Path.{◌∙◌, ap}
-use borrow.Author.Tests.{not-false}
 use native.Mathlib.Omega.{arith}
 use Rattle.row.specs.Rows.{post_in}
 use Rattle.newest.proofs.RowWays.{entries_whole}

@@ -1,5 +1,4 @@
 use Rattle.deliver.proofs.Waiting.{any_more, none_yet}
-use Prim.Native.Nat.{◌-◌}
 use mathlib.Core.Path.{◌≡◌}
 use native.Mathlib.Omega.{arith}
 use Rattle.deliver.proofs.ready.any_ready.Goals as goal

@@ -2,7 +2,6 @@ use Rattle.row.specs.declared.Numbers.{Numbers}
 use borrow.Author.Rules.{rules}
 use Rattle.deliver.specs.Loops.{least_below}
 use Rattle.deliver.proofs.Turns.{least_more}
-use Prim.Native.Nat.{◌-◌}
 use mathlib.Core.Path.{◌≡◌, ap}
 use native.Mathlib.Omega.{arith}
 use Rattle.deliver.proofs.ready.least_of.Goals as goal

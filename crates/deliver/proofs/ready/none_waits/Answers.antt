@@ -1,6 +1,5 @@
 use Rattle.deliver.specs.Delivery.{all_below}
 use Rattle.deliver.proofs.RowWays.{same_more}
-use Prim.Native.Nat.{◌-◌}
 use mathlib.Core.Path.{◌≡◌, refl}
 use native.Mathlib.Omega.{arith}
 use Rattle.deliver.proofs.ready.none_waits.Goals as goal

@@ -1,5 +1,4 @@
 use Rattle.deliver.proofs.Waiting.{ready_first, ready_more, ready_rest}
-use Prim.Native.Nat.{◌-◌}
 use native.Mathlib.Omega.{arith}
 use Rattle.deliver.proofs.ready.ready_in.Goals as goal
 

@@ -1,6 +1,5 @@
 use borrow.Author.Rules.{rules}
 use native.Mathlib.Omega.{arith}
-use lib.ListN.{length-map}
 use mathlib.Core.Path.{◌≡◌, sym}
 use Rattle.frame.specs.Types.{Typed}
 use Rattle.frame.proofs.Laws.{write_short, write_refused, write_accepted}

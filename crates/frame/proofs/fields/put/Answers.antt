@@ -1,6 +1,5 @@
 use native.Mathlib.Omega.{arith}
 use mathlib.Core.Path.{◌≡◌, refl, sym, ◌∙◌, ap}
-use Prim.Native.Nat.{◌≤◌, ◌-◌}
 use lib.Dec.{lit≤}
 use lib.ListN.{length-set}
 use Rattle.frame.proofs.FieldLaws.{in_22, fields_put_below, fields_put_more, fields_put_all}

@@ -1,6 +1,5 @@
 use native.Mathlib.Omega.{arith}
 use mathlib.Core.Path.{◌≡◌, refl, sym, ◌∙◌, ap}
-use Prim.Native.Nat.{◌≤◌, ◌-◌}
 use lib.Dec.{lit≤}
 use lib.ListN.{length-set}
 use Rattle.frame.proofs.Laws.{in_32, low_byte}

@@ -1,10 +1,8 @@
 use native.Mathlib.Omega.{arith}
-use mathlib.Core.Bool.{false}
 use mathlib.Core.Path.{◌≡◌, refl, sym, ◌∙◌, ap}
-use Prim.Native.Nat.{◌≤◌, ◌-◌}
 use lib.Dec.{lit≤}
 use Rattle.frame.specs.Lanes.{any_below}
-use Rattle.frame.specs.Refusals.{bad_entry, bad_entries}
+use Rattle.frame.specs.Refusals.{bad_entries}
 use Rattle.frame.proofs.Laws.{some_below, none_more}
 use Rattle.frame.proofs.refusals.bad_entries.Invariants.{bad}
 use Rattle.frame.proofs.refusals.bad_entries.Goals as goal

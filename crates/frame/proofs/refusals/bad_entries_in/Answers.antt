@@ -1,10 +1,7 @@
 use native.Mathlib.Omega.{arith}
-use mathlib.Core.Bool.{false}
 use mathlib.Core.Path.{◌≡◌, refl, sym, ◌∙◌, ap}
-use Prim.Native.Nat.{◌≤◌, ◌-◌}
 use lib.Dec.{lit≤}
 use Rattle.frame.specs.Lanes.{any_below}
-use Rattle.frame.specs.Layout.{entry_at}
 use Rattle.frame.specs.Refusals.{bad_entry}
 use Rattle.frame.proofs.Laws.{some_below, none_more, entries_in_lem}
 use Rattle.frame.proofs.refusals.bad_entries_in.Invariants.{bad}

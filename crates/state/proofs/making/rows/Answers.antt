@@ -1,5 +1,4 @@
 use mathlib.Core.Path.{◌≡◌, refl}
-use Prim.Native.Nat.{◌-◌}
 use native.Mathlib.Omega.{arith}
 use Rattle.state.proofs.FreshWays.{rows_none, rows_more}
 use Rattle.state.proofs.StateLaws.{lent_length}

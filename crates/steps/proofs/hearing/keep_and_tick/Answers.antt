@@ -6,7 +6,7 @@ use mathlib.Core.Path.{◌∙◌, ap}
 use Rattle.frame.specs.declared.Stamp.{Stamp}
 use Rattle.row.specs.Rows.{post_in}
 use Rattle.row.proofs.Laws.{tick_post, tick_known, tick_past}
-use Rattle.steps.proofs.HearWays.{takes_source, takes_other, fits, is_source_lem, is_reached}
+use Rattle.steps.proofs.HearWays.{takes_source, takes_other, is_source_lem, is_reached}
 use Rattle.steps.proofs.hearing.keep_and_tick.Goals as goal
 
 pub returns-then-source : goal.returns-then-source

@@ -1,6 +1,5 @@
 use Rattle.post.specs.Newest.{raised_below}
 use Rattle.steps.proofs.RaiseLaws.{raised_more}
-use Prim.Native.Nat.{◌-◌}
 use mathlib.Core.Path.{◌≡◌, refl, ◌∙◌}
 use native.Mathlib.Omega.{arith}
 use Rattle.steps.proofs.hearing.raise_table.Goals as goal

@@ -1,8 +1,6 @@
 use Rattle.frame.specs.Lanes.{any_below}
 use Rattle.steps.specs.Refusals.{strange_entries}
 use Rattle.steps.proofs.HearWays.{some_found, none_so_far}
-use Prim.Native.Nat.{◌-◌}
-use mathlib.Core.Bool.{false}
 use mathlib.Core.Path.{◌≡◌, refl}
 use native.Mathlib.Omega.{arith}
 use Rattle.steps.proofs.hearing.strange_entries.Goals as goal

@@ -10,9 +10,11 @@ mod logs;
 mod posts;
 mod yards;
 
+ghost use Rattle.std.specs.Io.{ReadsAtMost};
+
 use cases::{after, number_at, part};
-use libc::{STDIN_FILENO, STDOUT_FILENO};
-use std::num::wrapping_add_u64;
+use std::io;
+use std::io::Read;
 
 // How many cases were run, and how many of them were the same.
 #[derive(Clone, Copy)]
@@ -21,23 +23,35 @@ struct Counts {
     pub same: u64,
 }
 
-fn main() {
+fn main(rt: HostRuntime) -> io::Result<()> {
     let mut file = [0u8; 131072];
-    let n = io::read_full(STDIN_FILENO, &mut file);
-    let counts = run_file(&file[..n]);
-    io::print_decimal(STDOUT_FILENO, counts.cases);
-    io::write_all(STDOUT_FILENO, b" cases, ");
-    io::print_decimal(STDOUT_FILENO, counts.same);
-    io::write_all(STDOUT_FILENO, b" same, ");
-    io::print_decimal(
-        STDOUT_FILENO,
-        std::num::wrapping_sub_u64(counts.cases, counts.same),
-    );
-    io::write_all(STDOUT_FILENO, b" different\n");
+    let n = read_full(&rt, &mut file)?;
+    let counts = run_file(&rt, &file[..n])?;
+    println!(rt;
+        "{} cases, {} same, {} different",
+        counts.cases,
+        counts.same,
+        counts.cases.wrapping_sub(counts.same)
+    )
+}
+
+// Reads standard input until the buffer is full, the input ends or a read fails: how many bytes stand in the buffer.
+fn read_full(rt: &HostRuntime, buffer: &mut [u8]) -> io::Result<usize>
+    ensures { ReadsAtMost result buffer.new }
+{
+    let mut done = 0usize;
+    while done < buffer.len() {
+        let n = rt.stdin().read(&mut buffer[done..])?;
+        if n == 0 {
+            break;
+        }
+        done += n;
+    }
+    Ok(done)
 }
 
 // Runs each case on the input that stands above it.
-fn run_file(file: &[u8]) -> Counts {
+fn run_file(rt: &HostRuntime, file: &[u8]) -> io::Result<Counts> {
     let mut counts = Counts { cases: 0, same: 0 };
     let mut input = 0usize;
     let mut at = 0usize;
@@ -48,17 +62,17 @@ fn run_file(file: &[u8]) -> Counts {
         }
         if letter == b'c' {
             counts = Counts {
-                cases: wrapping_add_u64(counts.cases, 1),
-                same: wrapping_add_u64(counts.same, run_case(file, input, at)),
+                cases: counts.cases.wrapping_add(1),
+                same: counts.same.wrapping_add(run_case(rt, file, input, at)?),
             };
         }
         at = after(file, at, b'\n');
     }
-    counts
+    Ok(counts)
 }
 
 // `input NUMBER` and `case NAME VERB NUMBER` stand at these places: 1 where what the verb gives is what is expected, else 0.
-fn run_case(file: &[u8], input_at: usize, at: usize) -> u64 {
+fn run_case(rt: &HostRuntime, file: &[u8], input_at: usize, at: usize) -> io::Result<u64> {
     let mut input = [0u8; 49152];
     let mut expected = [0u8; 8192];
     let mut came = [0u8; 131072];
@@ -78,7 +92,7 @@ fn run_case(file: &[u8], input_at: usize, at: usize) -> u64 {
         wanted,
         &mut came,
     );
-    tell(part(file, name, verb), wanted, part(&came, 0, n))
+    tell(rt, part(file, name, verb), wanted, part(&came, 0, n))
 }
 
 // What a verb gives; the verb is known by its first letter.
@@ -106,13 +120,18 @@ fn run_verb<'a>(
 }
 
 // Prints the case's name and how it came out: 1 where it is the same, else 0.
-fn tell<'a>(name: &'a [u8], expected: &'a [u8], came: &'a [u8]) -> u64 {
-    io::write_all(STDOUT_FILENO, name);
+fn tell<'a>(
+    rt: &HostRuntime,
+    name: &'a [u8],
+    expected: &'a [u8],
+    came: &'a [u8],
+) -> io::Result<u64> {
+    rt.write_all(name)?;
     if cases::is_same(expected, came) {
-        io::write_all(STDOUT_FILENO, b"same\n");
-        return 1;
+        rt.write_all(b"same\n")?;
+        return Ok(1);
     }
-    io::write_all(STDOUT_FILENO, b"DIFFERENT, came\n");
-    io::write_all(STDOUT_FILENO, came);
-    0
+    rt.write_all(b"DIFFERENT, came\n")?;
+    rt.write_all(came)?;
+    Ok(0)
 }

@@ -105,6 +105,7 @@ fn malformed(file: &[u8]) -> Taken
 }
 
 // An order judged after those seen; the numbers of a good one join those found.
+#[tactic(auto, using(crate::proofs::Laws::joined_range))]
 fn join(seen: &mut [u16], found: &mut [u16], x: LogItem) -> u8
     requires { (length seen.old ≡ 11) × (length found.old ≡ 384) }
     ensures value { result ≡ refusal_by seen.old x }

@@ -7,7 +7,8 @@ use Rattle.yard.specs.Worlds.{World}
 use Rattle.state.specs.States.{whole}
 use Rattle.yard.specs.InState.{Here}
 use Rattle.yard.specs.Sound.{Holds}
-use Rattle.roll.specs.Runs.{Step, run}
+use Rattle.roll.specs.Calls.{step_in}
+use Rattle.roll.specs.Runs.{Step, step, run}
 use Rattle.roll.specs.Answers.{answer_number}
 use Rattle.roll.proofs.SoundCalls.{calls_sound}
 use Rattle.meaning.specs.Script.{step_of, refusal_of, world_after, refused_lines}
@@ -18,7 +19,7 @@ use Rattle.script.specs.OnState.{run_in, refusal_in, told_in, here_after, refuse
 pub runs_hold : (h : Here) (w : World) (l : List Step) → Holds h w → Holds (run_in h l) (run w l)
 unfolding run_in run
 runs_hold h w [] e = e
-runs_hold h w (s ∷ l) e = runs_hold _ _ l (calls_sound.leaves h w s e)
+runs_hold h w (s ∷ l) e = runs_hold (step_in h s) (step w s) l (calls_sound.leaves h w s e)
 
 refusal_same : (h : Here) (w : World) (l : List Step) → Holds h w → refusal_in h l ≡ refusal_of w l
 refusal_same h w [] e = refl
@@ -32,7 +33,7 @@ told_same h w (s ∷ l) e = ap answer_told (calls_sound.answers h w s e)
 pub lines_hold : (h : Here) (w : World) (ls : List Line) → Holds h w → Holds (here_after h ls) (world_after w ls)
 unfolding here_after world_after
 lines_hold h w [] e = e
-lines_hold h w (l ∷ ls) e = lines_hold _ _ ls (runs_hold h w (step_of l) e)
+lines_hold h w (l ∷ ls) e = lines_hold (run_in h (step_of l)) (run w (step_of l)) ls (runs_hold h w (step_of l) e)
 
 pub refused_same : (h : Here) (w : World) (n : ℕ) (ls : List Line) → Holds h w → refused_in h n ls ≡ refused_lines w n ls
 unfolding refused_in refused_lines

@@ -1,5 +1,4 @@
 use native.Mathlib.Omega.{arith}
-use Prim.Native.Nat.{◌-◌}
 use Rattle.reader.proofs.LinesLaws.{line_above, judging_start, judging_next, judging_end}
 use Rattle.reader.proofs.judge_lines.Goals as goal
 

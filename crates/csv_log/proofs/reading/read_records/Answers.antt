@@ -1,6 +1,5 @@
 use native.Mathlib.Omega.{arith}
 use mathlib.Core.Path.{refl, ap, ◌∙◌}
-use Prim.Native.Nat.{◌-◌}
 use Rattle.csv_log.specs.declared.Taken.{Taken}
 use Rattle.csv_log.proofs.ReadLaws.{after_above}
 use Rattle.csv_log.proofs.Finding.{finding_start, finding_next, finding_bad, finding_end}
@@ -11,7 +10,11 @@ loop-at-init c = (refl, refl, finding_start _ _ _)
 
 pub returns-then-taken-ne0 : goal.returns-then-taken-ne0
 returns-then-taken-ne0 c =
-    let e = ap (λ (t : Taken). t.number) c.take_record-taken.ensures.value in record { value = finding_bad _ _ _ _ _ _ _ _ c.loop-at.invariant.2 c.loop-at-test.true e c.if-taken-ne0.true; found = λ z. absurd (c.if-taken-ne0.true z) }
+    let e = ap (λ (t : Taken). t.number) c.take_record-taken.ensures.value in
+    record {
+      value = finding_bad _ _ _ _ _ _ _ _ c.loop-at.invariant.2 c.loop-at-test.true e c.if-taken-ne0.true;
+      found = λ z. absurd (c.if-taken-ne0.true z);
+    }
 
 pub loop-at-smaller : goal.loop-at-smaller
 loop-at-smaller c =
@@ -31,10 +34,12 @@ pub loop-at-preserved : goal.loop-at-preserved
 loop-at-preserved c =
     let r = c.take_record-taken in
     let i = c.loop-at.invariant in
-    let e = ap (λ (t : Taken). t.number) r.ensures.0 in
-    let a = ap (λ (t : Taken). t.at) r.ensures.0 in
-    (r.auto.1.1.0 ∙ i.0, r.auto.1.1.1.0 ∙ i.1, finding_next _ _ _ _ _ _ _ _ _ _ _ i.2 c.loop-at-test.true e c.if-taken-ne0.false a r.ensures.1.0 r.ensures.1.1)
+    let e = ap (λ (t : Taken). t.number) r.ensures.value in
+    let a = ap (λ (t : Taken). t.at) r.ensures.value in
+    let found = finding_next _ _ _ _ _ _ _ _ _ _ _ i.2 c.loop-at-test.true e c.if-taken-ne0.false a r.ensures.seen r.ensures.found in
+    (r.auto.seen ∙ i.0, r.auto.found ∙ i.1, found)
 
 pub returns : goal.returns
 returns c =
-    let r = finding_end _ _ _ _ _ _ _ c.loop-at.invariant.2 c.loop-at-test.false in record { value = r.0; found = λ z. r.1 }
+    let r = finding_end _ _ _ _ _ _ _ c.loop-at.invariant.2 c.loop-at-test.false in
+    record { value = r.0; found = λ z. r.1 }

@@ -1,6 +1,5 @@
 use native.Mathlib.Omega.{arith}
 use mathlib.Core.Path.{refl, ◌∙◌}
-use Prim.Native.Nat.{◌-◌}
 use Rattle.csv_log.specs.Writing.{records_in}
 use Rattle.csv_log.proofs.Judging.{judging_start}
 use Rattle.csv_log.proofs.HandedLaws.{handed_cut, handed_next, handed_bad, handed_end}
@@ -16,7 +15,12 @@ pub returns-then-number-ne0 : goal.returns-then-number-ne0
 returns-then-number-ne0 c = handed_bad _ _ _ _ _ c.loop-i.invariant.2 (omega arith) c.item.ensures c.see-number.ensures.value c.if-number-ne0.true
 
 pub loop-i-preserved : goal.loop-i-preserved
-loop-i-preserved c = (omega arith, c.see-number.auto.seen ∙ c.loop-i.invariant.1, handed_next _ _ _ _ _ _ c.loop-i.invariant.2 (omega arith) c.item.ensures (c.see-number.ensures.value, c.see-number.ensures.seen) c.if-number-ne0.false)
+loop-i-preserved c =
+    let s = c.see-number in (
+      omega arith,
+      s.auto.seen ∙ c.loop-i.invariant.1,
+      handed_next _ _ _ _ _ _ c.loop-i.invariant.2 (omega arith) c.item.ensures (s.ensures.value, s.ensures.seen) c.if-number-ne0.false,
+    )
 
 pub returns : goal.returns
 returns c = handed_end _ _ _ c.loop-i.invariant.2 c.loop-i-test.false

@@ -1,6 +1,5 @@
 use native.Mathlib.Omega.{arith}
 use mathlib.Core.Path.{sym, ◌∙◌}
-use Prim.Native.Nat.{◌-◌}
 use Rattle.reader.proofs.FormsLaws.{posts_start, posts_next, posts_measure, posts_end}
 use Rattle.reader.proofs.forms.read_posts.Goals as goal
 

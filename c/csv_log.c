@@ -4,7 +4,7 @@
  * c/csv_log.out has, and exits with 1 if an answer or what was lent is not as it
  * should be. To build and run it in the repository root:
  *
- *   rt staticlib csv
+ *   tools/archives csv
  *   gcc -std=c11 -Wall -Wextra -Wpedantic -Wconversion -Werror \
  *       -o target/csv_log c/csv_log.c target/staticlib/libcsv.a
  *   target/csv_log

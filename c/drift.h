@@ -6,11 +6,11 @@
  *
  * Link with the archive of what is used, from target/staticlib:
  *
- *   drift_frame_...      libframe.a       made by `rt staticlib frame`
- *   drift_post_...       liblent_post.a   made by `rt staticlib lent_post`
- *   drift_run_script     libscript.a      made by `rt staticlib script`
+ *   drift_frame_...      libframe.a       made by `tools/archives frame`
+ *   drift_post_...       liblent_post.a   made by `tools/archives lent_post`
+ *   drift_run_script     libscript.a      made by `tools/archives script`
  *   drift_script_state   the same
- *   drift_csv_...        libcsv.a         made by `rt staticlib csv`
+ *   drift_csv_...        libcsv.a         made by `tools/archives csv`
  *
  * libframe.a calls no other library, the others only memcpy and memset, which
  * compiled C may call anyway. The headers are for C11 and C++17, and later ones.

@@ -104,7 +104,7 @@ DRIFT_POST_DEMAND(offsetof(struct drift_post, log) == 800);
  *
  * They have no state, need no initialisation and no heap, and may be called
  * from any thread or interrupt handler that has the record and the buffer to
- * itself meanwhile. They use some 4 KB of the caller's stack: have 8 KB free.
+ * itself meanwhile. They use less than 7 KB of the caller's stack: have 8 KB free.
  * The x86-64 archive may use the vector (SSE) registers, so an interrupt
  * handler that calls one must save those.
  */

@@ -3,7 +3,7 @@
  * what the lent buffers hold afterwards. Exits with 1 if something differs.
  * To build and run it in the repository root:
  *
- *   rt staticlib frame
+ *   tools/archives frame
  *   gcc -std=c11 -Wall -Wextra -Wpedantic -Wconversion -Werror \
  *       -o target/frame_check c/frame_check.c target/staticlib/libframe.a
  *   target/frame_check

@@ -5,7 +5,7 @@
  * if an answer, the record or the buffer is not as it should be.
  * To build and run it in the repository root:
  *
- *   rt staticlib lent_post
+ *   tools/archives lent_post
  *   gcc -std=c11 -Wall -Wextra -Wpedantic -Wconversion -Werror \
  *       -o target/one_post c/one_post.c target/staticlib/liblent_post.a
  *   target/one_post

@@ -3,7 +3,7 @@
  * library's answers to wrong buffers too, and exits with 1 if one differs.
  * To build and run it in the repository root:
  *
- *   rt staticlib script
+ *   tools/archives script
  *   gcc -std=c11 -Wall -Wextra -Wpedantic -Wconversion -Werror \
  *       -o target/run_script c/run_script.c target/staticlib/libscript.a
  *   target/run_script examples/03-document-01.drift

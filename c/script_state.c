@@ -5,7 +5,7 @@
  * answers to states of other lengths too, and exits with 1 if one differs. To
  * build and run it in the repository root:
  *
- *   rt staticlib script
+ *   tools/archives script
  *   gcc -std=c11 -Wall -Wextra -Wpedantic -Wconversion -Werror \
  *       -o target/script_state c/script_state.c target/staticlib/libscript.a
  *   target/script_state examples/09-roll-call.drift

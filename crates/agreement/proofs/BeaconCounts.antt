@@ -14,7 +14,7 @@ use Rattle.air.specs.Air.{bad_air}
 use Rattle.post.specs.declared.Post.{Post}
 use Rattle.steps.specs.Refusals.{not_in_yard}
 use Rattle.steps.specs.Steps.{beacon_step}
-use Rattle.steps.specs.declared.BeaconAnswer as beaconing
+use Rattle.steps.specs.BeaconAnswer as beaconing
 use Rattle.state.specs.Yards.{post_at, beacons_at, spent}
 use Rattle.yard.specs.Singles.{stops_beacon, post_beacons, yard_orders, yard_hears, yard_beacons}
 use Rattle.yard.specs.Worlds.{World, order, hear, beacon, single}
@@ -28,10 +28,10 @@ stops_at w lane c = cond (ltb lane 8) (stops_beacon w.air (post_at w.yard lane) 
 
 -- what it answers by that
 abbrev pub answers_to : ℕ → beaconing.BeaconAnswer
-answers_to number = cond (eqb number 0) beaconing.TheVariants.Sent (beaconing.TheVariants.Refused number)
+answers_to number = cond (eqb number 0) beaconing.Sent (beaconing.Refused number)
 
 -- where nothing stops it the post's own step sends it
-sends : (air : List ℕ) (p : Post) (c : ℕ) → stops_beacon air p c ≡ 0 → (beacon_step p).answer ≡ beaconing.TheVariants.Sent
+sends : (air : List ℕ) (p : Post) (c : ℕ) → stops_beacon air p c ≡ 0 → (beacon_step p).answer ≡ beaconing.Sent
 unfolding beacon_step
 sends air p c z =
     let r27 : ℕ = cond (spent c) 27 0 in

@@ -10,7 +10,7 @@ use Rattle.air.specs.Air.{frames_with}
 use Rattle.post.specs.Newest.{beacon_frame}
 use Rattle.steps.specs.Refusals.{not_in_yard}
 use Rattle.steps.specs.Steps.{beacon_step}
-use Rattle.steps.specs.declared.BeaconAnswer as beaconing
+use Rattle.steps.specs.BeaconAnswer as beaconing
 use Rattle.state.specs.Yards.{post_at, beacons_at}
 use Rattle.state.specs.Changed.{with_beacons}
 use Rattle.yard.specs.Singles.{post_beacons, post_beacons_air, yard_beacons, yard_beacons_air}
@@ -20,7 +20,7 @@ use Rattle.agreement.proofs.AirViews.{spoken_frames}
 
 -- a beacon that leaves the world as it was, answering its refusal
 pub record BeaconStays (w : World) (lane number : ℕ) : Type 0 where
-  pub answer : (yard_beacons w.air w.yard lane).answer ≡ beaconing.TheVariants.Refused number
+  pub answer : (yard_beacons w.air w.yard lane).answer ≡ beaconing.Refused number
   pub leaves : single w (beacon lane) ≡ w
 
 -- 4
@@ -58,7 +58,7 @@ beacon_27 w lane l e i h = record {
 
 -- a beacon that is sent
 pub record BeaconDone (w : World) (lane : ℕ) : Type 0 where
-  pub answer : (yard_beacons w.air w.yard lane).answer ≡ beaconing.TheVariants.Sent
+  pub answer : (yard_beacons w.air w.yard lane).answer ≡ beaconing.Sent
   pub leaves : single w (beacon lane) ≡ record {
     yard = with_beacons w.yard (w.yard.frames + 1) (set w.yard.beacons lane (beacons_at w.yard lane + 1));
     air = frames_with w.air w.yard.frames (beacon_frame (post_at w.yard lane));

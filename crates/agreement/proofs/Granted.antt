@@ -14,7 +14,7 @@ use Rattle.air.proofs.Stretches.{length_stays}
 use Rattle.cells.specs.Sets.{has_lane}
 use Rattle.post.specs.declared.Post.{Post}
 use Rattle.steps.specs.Steps.{order_step, hear_step, beacon_step}
-use Rattle.steps.specs.declared.BeaconAnswer as beaconing
+use Rattle.steps.specs.BeaconAnswer as beaconing
 use Rattle.state.specs.Yards.{no_post, post_at, beacons_at, fresh_yard}
 use Rattle.yard.specs.Singles.{PostOrdered, YardOrdered, stops_order, post_orders, post_orders_air, yard_orders, yard_orders_air}
 use Rattle.yard.specs.Singles.{PostHeard, YardHeard, stops_hearing, frame_at, post_hears, post_hears_air, yard_hears, yard_hears_air}
@@ -240,7 +240,7 @@ module _ (present sources dests : ℕ) (air : List ℕ) where
         go (inr m) ih = rw (stopped_by c, le-leb 128 c m) (ih c l ∙ omega arith)
 
     its_own : (l : List Single) → answer (run w (map one l)) (one (beacon q))
-        ≡ beaconed (cond (ltb (beacon_steps q l) 128) beaconing.TheVariants.Sent (beaconing.TheVariants.Refused 27))
+        ≡ beaconed (cond (ltb (beacon_steps q l) 128) beaconing.Sent (beaconing.Refused 27))
     its_own l = answer_after q w counts_eight l ∙ ap beaconed (go (below_or_not n 128))
       where
         n : ℕ
@@ -249,7 +249,7 @@ module _ (present sources dests : ℕ) (air : List ℕ) where
         d : count_after q w counts_eight n (beacons_at w.yard q) ≡ min n 128
         d = ap (count_after q w counts_eight n) (ap (λ (f : ℕ → ℕ). f q) (fresh_beacons present sources dests)) ∙ counted n 0 (omega arith) ∙ omega arith
 
-        go : (n < 128) ⊎ (128 ≤ n) → answers_to (stops_at w q (count_after q w counts_eight n (beacons_at w.yard q))) ≡ cond (ltb n 128) beaconing.TheVariants.Sent (beaconing.TheVariants.Refused 27)
+        go : (n < 128) ⊎ (128 ≤ n) → answers_to (stops_at w q (count_after q w counts_eight n (beacons_at w.yard q))) ≡ cond (ltb n 128) beaconing.Sent (beaconing.Refused 27)
         go (inl h) = rw (d, stopped_by (min n 128), lt-leb 128 (min n 128) (omega arith), lt-ltb n 128 h)
         go (inr h) = rw (d, stopped_by (min n 128), le-leb 128 (min n 128) (omega arith), le-ltb n 128 h)
 

@@ -16,7 +16,7 @@ use Rattle.steps.specs.Refusals.{not_in_yard, is_order, is_next, hear_refusal}
 use Rattle.post.specs.Taking.{raised_post}
 use Rattle.steps.specs.Answers.{hear_number}
 use Rattle.steps.specs.Steps.{hear_taken, hear_other, hear_step}
-use Rattle.steps.specs.declared.HearAnswer as hearings
+use Rattle.steps.specs.HearAnswer as hearings
 use Rattle.state.specs.Yards.{post_at}
 use Rattle.yard.specs.Singles.{frame_at}
 use Rattle.yard.specs.Worlds.{World, hear}
@@ -40,7 +40,7 @@ pub hear_zero : (p : posts.Post) (f : frames.Frame) → hear_refusal p f ≡ 0 �
 unfolding hear_step hear_taken hear_other
 hear_zero p f z = rw z (go (is_next f (last_of p f.lane)))
   where
-    other : (a b : Bool) (n : ℕ) → hear_number (cond a (cond b (hearings.TheVariants.Again n) (hearings.TheVariants.Early n)) (hearings.TheVariants.Beacon n)) ≡ 0
+    other : (a b : Bool) (n : ℕ) → hear_number (cond a (cond b (hearings.Again n) (hearings.Early n)) (hearings.Beacon n)) ≡ 0
     other true true n = refl
     other true false n = refl
     other false b n = refl

@@ -14,7 +14,7 @@ use Rattle.post.specs.declared.Post.{Post}
 use Rattle.post.specs.Record.{last_of}
 use Rattle.steps.specs.Refusals.{not_in_yard, is_next, hear_refusal}
 use Rattle.steps.specs.Steps.{hear_other, hear_step}
-use Rattle.steps.specs.declared.HearAnswer as hearings
+use Rattle.steps.specs.HearAnswer as hearings
 use Rattle.state.specs.Yards.{post_at}
 use Rattle.state.specs.Changed.{with_post}
 use Rattle.yard.specs.Singles.{frames_after, frame_at, post_hears, post_hears_air, yard_hears, yard_hears_air}
@@ -24,13 +24,13 @@ use Rattle.agreement.proofs.AirViews.{silent_air, silent_frames, spoken_frames}
 
 -- a hearing that leaves the world as it was, answering its refusal
 pub record HearStays (w : World) (lane k number : ℕ) : Type 0 where
-  pub answer : (yard_hears w.air w.yard lane k).answer ≡ hearings.TheVariants.Refused number
+  pub answer : (yard_hears w.air w.yard lane k).answer ≡ hearings.Refused number
   pub leaves : single w (hear lane k) ≡ w
 
 -- a post that answers a refusal, stays and speaks nothing leaves the yard
 hear_stays : (w : World) (lane k number : ℕ) → lane < 8
     → post_hears w.air (post_at w.yard lane) w.yard.frames k
-    ≡ record { answer = hearings.TheVariants.Refused number; post = post_at w.yard lane; frames = w.yard.frames }
+    ≡ record { answer = hearings.Refused number; post = post_at w.yard lane; frames = w.yard.frames }
     → post_hears_air w.air (post_at w.yard lane) w.yard.frames k ≡ w.air
     → HearStays w lane k number
 unfolding single yard_hears yard_hears_air

@@ -11,7 +11,7 @@ use Rattle.post.specs.Taking.{kept, ticked, own_taken}
 use Rattle.deliver.specs.Delivery.{delivered}
 use Rattle.steps.specs.Refusals.{order_refusal}
 use Rattle.steps.specs.Steps.{order_sent, order_step}
-use Rattle.steps.specs.declared.OrderAnswer as orders
+use Rattle.steps.specs.OrderAnswer as orders
 use Rattle.state.specs.Yards.{post_at}
 use Rattle.yard.specs.Worlds.{World, order}
 use Rattle.roll.specs.Runs.{answer, order_sent_by, sent_by}
@@ -28,7 +28,7 @@ use Rattle.agreement.proofs.Simulates.{Fit, Simulates, order_refused_same, order
 
 -- what an order that is sent answers
 order_answer : (p : posts.Post) (word : ℕ) → order_refusal p ≡ 0
-    → (count : ℕ) × ((order_step p word).answer ≡ orders.TheVariants.Sent (record { 0 = p.serial.0 + 1 }) (record { 0 = p.clock.0 + 1 }) count)
+    → (count : ℕ) × ((order_step p word).answer ≡ orders.Sent (record { 0 = p.serial.0 + 1 }) (record { 0 = p.clock.0 + 1 }) count)
 unfolding order_step order_sent own_taken kept ticked
 order_answer p word z = ((delivered (own_taken p word)).count, rw z)
 
@@ -83,7 +83,7 @@ module _ (present sources dests : ℕ) where
         done = order_is_done present sources dests w s lane word l b z room next
 
         says : (count : ℕ) × ((order_step (post_at w.yard lane) word).answer
-            ≡ orders.TheVariants.Sent (record { 0 = (post_at w.yard lane).serial.0 + 1 }) (record { 0 = (post_at w.yard lane).clock.0 + 1 }) count)
+            ≡ orders.Sent (record { 0 = (post_at w.yard lane).serial.0 + 1 }) (record { 0 = (post_at w.yard lane).clock.0 + 1 }) count)
         says = order_answer (post_at w.yard lane) word z
 
     pub order_simulates : Simulates present sources dests w (order lane word)

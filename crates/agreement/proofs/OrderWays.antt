@@ -13,7 +13,7 @@ use Rattle.post.specs.declared.Post.{Post}
 use Rattle.post.specs.Taking.{kept, ticked, own_taken}
 use Rattle.steps.specs.Refusals.{order_refusal}
 use Rattle.steps.specs.Steps.{order_step}
-use Rattle.steps.specs.declared.OrderAnswer as orders
+use Rattle.steps.specs.OrderAnswer as orders
 use Rattle.state.specs.Yards.{post_at}
 use Rattle.yard.specs.Singles.{post_orders, post_orders_air, first_after, yard_orders, yard_orders_air}
 use Rattle.yard.specs.Worlds.{World, order, single}
@@ -24,13 +24,13 @@ use Rattle.agreement.proofs.AirViews.{silent_air, silent_frames, spoken_frames}
 
 -- an order that leaves the world as it was, answering its refusal
 pub record OrderStays (w : World) (lane word number : ℕ) : Type 0 where
-  pub answer : (yard_orders w.air w.yard lane word).answer ≡ orders.TheVariants.Refused number
+  pub answer : (yard_orders w.air w.yard lane word).answer ≡ orders.Refused number
   pub leaves : single w (order lane word) ≡ w
 
 -- a post that answers a refusal, stays and speaks nothing leaves the yard
 order_stays : (w : World) (lane word number : ℕ) → lane < 8
     → post_orders w.air (post_at w.yard lane) w.yard.frames word
-    ≡ record { answer = orders.TheVariants.Refused number; post = post_at w.yard lane; frames = w.yard.frames }
+    ≡ record { answer = orders.Refused number; post = post_at w.yard lane; frames = w.yard.frames }
     → post_orders_air w.air (post_at w.yard lane) w.yard.frames word ≡ w.air
     → OrderStays w lane word number
 unfolding single yard_orders yard_orders_air first_after

@@ -9,7 +9,7 @@ use borrow.Author.Tests.{ne_eqb}
 use Rattle.cells.specs.Tables.{order_place}
 use Rattle.state.specs.Yards.{post_at, beacons_at, fresh_yard, yard_refusal}
 use Rattle.yard.specs.Worlds.{World}
-use Rattle.roll.specs.declared.RollAnswer as calling
+use Rattle.roll.specs.RollAnswer as calling
 use Rattle.roll.specs.RollCall.{roll_steps, roll_refusal, roll_call}
 use Rattle.roll.specs.Runs.{Step, roll, Answer, ordered, heard, beaconed, called, answer, step, run, Order, sent}
 use Rattle.roll.specs.Logs.{log_at, in_order}
@@ -41,11 +41,11 @@ abbrev steps_said : Answer → ℕ
 steps_said (ordered a) = 0
 steps_said (heard a) = 0
 steps_said (beaconed a) = 0
-steps_said (called (calling.TheVariants.Called n)) = n
-steps_said (called (calling.TheVariants.Refused n)) = 0
+steps_said (called (calling.Called n)) = n
+steps_said (called (calling.Refused n)) = 0
 
 -- a roll call that answers a count was not refused, and ran that many steps
-roll_ran : (w : World) (n : ℕ) → answer w roll ≡ called (calling.TheVariants.Called n) → (roll_refusal w ≡ 0) × (n ≡ length (roll_steps w))
+roll_ran : (w : World) (n : ℕ) → answer w roll ≡ called (calling.Called n) → (roll_refusal w ≡ 0) × (n ≡ length (roll_steps w))
 unfolding answer roll_call
 roll_ran w n e = go (same_or_not (roll_refusal w) 0)
   where
@@ -111,7 +111,7 @@ module _ (present sources dests : ℕ) (air : List ℕ) (small : present < 256) 
         (logs steps more a)
         (rw (append-nil (steps ++ more)) at (logs (steps ++ more) [] b))
 
-    rolls : (steps : List Step) (n : ℕ) → answer (run w steps) roll ≡ called (calling.TheVariants.Called n) → AfterRollCall present sources dests w steps n
+    rolls : (steps : List Step) (n : ℕ) → answer (run w steps) roll ≡ called (calling.Called n) → AfterRollCall present sources dests w steps n
     rolls steps n e =
         let ran = roll_ran (run w steps) n e in
         let c = moving.called R ro (air_view air 0) steps (rw (count_posts present sources dests small) (some_ones present sources dests small smallSources smallDests z))

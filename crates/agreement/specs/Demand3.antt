@@ -4,7 +4,7 @@ use Rattle.std.specs.Int.Count.{ones}
 use Rattle.cells.specs.Sets.{has_lane}
 use Rattle.state.specs.Yards.{fresh_yard, yard_refusal}
 use Rattle.yard.specs.Worlds.{World, world_of, Single, single, singles}
-use Rattle.roll.specs.declared.RollAnswer as calling
+use Rattle.roll.specs.RollAnswer as calling
 use Rattle.roll.specs.RollCall.{roll_steps}
 use Rattle.roll.specs.Runs.{Step, one, roll, answer, called, run, Order, sent}
 use Rattle.roll.specs.Logs.{log_at, in_order, Rising}
@@ -59,7 +59,7 @@ pub record Demand3 (present sources dests : ℕ) (w : World) : Type 0 where
   pub logs : LogsBegin w
   pub list : (steps : List Step) → OneList w steps
   pub agree : LogsAgree w
-  pub rolls : (steps : List Step) (n : ℕ) → answer (run w steps) roll ≡ called (calling.TheVariants.Called n)
+  pub rolls : (steps : List Step) (n : ℕ) → answer (run w steps) roll ≡ called (calling.Called n)
       → AfterRollCall present sources dests w steps n
 
 -- for every fresh yard that is not refused, its sets being of eight bits, and every air, of any bytes and any length

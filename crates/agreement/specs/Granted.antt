@@ -2,7 +2,7 @@
 -- "lists of steps without a roll call" are lists of single steps, with any arguments, refused ones included; `map one` makes steps of them.
 use Rattle.std.specs.Prelude.{◌≡◌, true, cond, List, [], ◌∷◌, ◌++◌, map, ℕ, ◌+◌, ltb, eqb, length}
 use Rattle.cells.specs.Sets.{has_lane}
-use Rattle.steps.specs.declared.BeaconAnswer as beaconing
+use Rattle.steps.specs.BeaconAnswer as beaconing
 use Rattle.yard.specs.Worlds.{World, Single, order, hear, beacon}
 use Rattle.roll.specs.Runs.{Answer, beaconed, one, answer, step, run}
 use Rattle.agreement.specs.Demand3.{fresh_world}
@@ -42,7 +42,7 @@ pub record Granted (present sources dests : ℕ) (air : List ℕ) : Type 0 where
   -- "Each post gets 128 of its own": whatever else is done, its first 128 are sent, and each further one is refused by 27
   pub own : (q : ℕ) (l : List Single) → has_lane present q ≡ true → length air ≡ 65536
       → answer (run (fresh_world present sources dests air) (map one l)) (one (beacon q))
-      ≡ beaconed (cond (ltb (beacon_steps q l) 128) beaconing.TheVariants.Sent (beaconing.TheVariants.Refused 27))
+      ≡ beaconed (cond (ltb (beacon_steps q l) 128) beaconing.Sent (beaconing.Refused 27))
 
 abbrev pub BeaconsGranted : Type 0
 BeaconsGranted = (present sources dests : ℕ) (air : List ℕ) → Granted present sources dests air

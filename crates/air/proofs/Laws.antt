@@ -15,7 +15,7 @@ use Rattle.frame.proofs.Laws.{passed, is_32, not_32, written_good, written_bad}
 use Rattle.air.specs.Air.{bad_air, not_on_air, stretch_at, place_refusal, placed, frames_with}
 use Rattle.air.specs.Stretch.{stretch_refusal, stretch_of}
 
--- the ways through `refusal`
+-- the ways through `check`
 pub air_short : (air : List ℕ) (frames k : ℕ) → (length air ≡ 65536 → ⊥) → 13 ≡ stretch_refusal air frames k
 unfolding stretch_refusal
 air_short air frames k h = simp (ne_eqb (length air) 65536 h)

@@ -4,52 +4,51 @@
 #![tactic(auto)]
 
 ghost use Rattle.std.specs.Prelude.{◌≡◌};
+ghost use Rattle.refusal.specs.Numbers.{refused_with};
 ghost use Rattle.air.specs.Air.{place_refusal, frames_with};
 ghost use Rattle.air.specs.Stretch.{stretch_refusal, stretch_of};
 
 use frame::Frame;
+use refusal::Refusal;
 
 pub const LENGTH: usize = 65536;
 
 pub const FRAMES: usize = 2048;
 
-// What is said of frame k where `frames` were broadcast: 0, 13 or 25.
-pub fn refusal(air: &[u8], frames: usize, k: usize) -> u8
-    ensures { result ≡ stretch_refusal air.now frames k }
+// What is said of frame k where `frames` were broadcast: 13 or 25.
+pub fn check(air: &[u8], frames: usize, k: usize) -> Result<(), Refusal>
+    ensures { refused_with result ≡ stretch_refusal air.now frames k }
 {
     if air.len() != LENGTH {
-        return 13;
+        return Err(Refusal::BadAir);
     }
-    if k >= frames {
-        return 25;
+    if k >= frames || k >= FRAMES {
+        return Err(Refusal::NotOnAir);
     }
-    if k >= FRAMES {
-        return 25;
-    }
-    0
+    Ok(())
 }
 
-// The stretch of the air that frame k fills, or an empty one where `refusal` is not 0.
+// The stretch of the air that frame k fills, or an empty one where `check` refuses.
 pub fn stretch(air: &[u8], frames: usize, k: usize) -> &[u8]
     ensures { result.now ≡ stretch_of air.now frames k }
 {
-    if refusal(air, frames, k) == 0 {
-        let start = Frame::LENGTH * k;
-        &air[start..start + Frame::LENGTH]
-    } else {
-        &air[..0]
+    match check(air, frames, k) {
+        Ok(()) => {
+            let start = Frame::LENGTH * k;
+            &air[start..start + Frame::LENGTH]
+        }
+        Err(_) => &air[..0],
     }
 }
 
-// Writes f as frame k of lent bytes, the air or a buffer: 0, or the refusal 6 to 11 with the bytes as they were.
-pub fn write(bytes: &mut [u8], k: usize, f: Frame) -> u8
-    ensures number { result ≡ place_refusal bytes.old k f }
+// Writes f as frame k of lent bytes, the air or a buffer; a refusal, 6 to 11, leaves the bytes as they were.
+pub fn write(bytes: &mut [u8], k: usize, f: Frame) -> Result<(), Refusal>
+    ensures number { refused_with result ≡ place_refusal bytes.old k f }
     ensures bytes { bytes.new ≡ frames_with bytes.old k f }
 {
     if k >= bytes.len() / Frame::LENGTH {
-        return 6;
+        return Err(Refusal::BadLength);
     }
     let place = Frame::LENGTH * k;
-    let end = place + Frame::LENGTH;
-    f.write(&mut bytes[place..end])
+    f.write(&mut bytes[place..place + Frame::LENGTH])
 }

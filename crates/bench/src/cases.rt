@@ -1,120 +1,90 @@
-// The case file: places, parts and numbers in it, and the text that the lines under a heading stand for.
+// The case file: its blocks, the words and numbers of a heading, and the text that the lines below it stand for.
 ghost use Rattle.std.specs.Prelude.{◌-◌, ◌≤◌, length};
 
-use scan::{Scan, byte_at};
-use text::{put_byte, put_text};
+use scan::{read_number, start_at};
+use text::Writer;
 
-// The part from a place to before another; nothing where these are no places of s.
-pub(crate) fn part(s: &[u8], from: usize, to: usize) -> &[u8] {
-    if from <= to {
-        if to <= s.len() { &s[from..to] } else { &s[..0] }
-    } else {
-        &s[..0]
-    }
+// A line, and what stands below it.
+#[derive(Clone, Copy)]
+pub(crate) struct Block<'a> {
+    pub(crate) heading: &'a [u8],
+    pub(crate) below: &'a [u8],
 }
 
-// The place after the next such byte, or the end. Less is left after it, where anything was left.
-pub(crate) fn after(s: &[u8], from: usize, byte: u8) -> usize
-    ensures { length s.now - result ≤ length s.now - from - 1 }
-{
-    let mut at = from;
-    while at < s.len() {
-        if s[at] == byte {
-            return at + 1;
+impl<'a> Block<'a> {
+    // The block of a text's first line. Less is left below it, where anything was left.
+    pub(crate) fn first(text: &'a [u8]) -> Block<'a>
+        ensures { length result.below.now ≤ length text.now - 1 }
+    {
+        match text.iter().position(|b| *b == b'\n') {
+            Some(k) => Block {
+                heading: &text[..k],
+                below: &text[k + 1..],
+            },
+            None => Block {
+                heading: text,
+                below: &[],
+            },
         }
-        at += 1;
     }
-    at
-}
 
-pub(crate) fn is_same<'a>(a: &'a [u8], b: &'a [u8]) -> bool {
-    (a.len() == b.len()) & scan::stands_at(a, 0, b)
-}
+    // Word i of the heading; an empty one where there are fewer.
+    pub(crate) fn word(self, i: usize) -> &'a [u8] {
+        self.heading.split(|b| *b == b' ').nth(i).unwrap_or(&[])
+    }
 
-// The number that stands at a place after a text, or `none` where there is none, and the place after it.
-pub(crate) fn number_at(s: &[u8], at: usize, text: &[u8], none: u32) -> Scan {
-    let begun = Scan {
-        ok: true,
-        at: at,
-        earlier: 0,
-        latest: none,
-    };
-    scan::read_number(s, scan::read_text(s, text, begun))
-}
-
-// The text of the lines under the heading that stands at a place: how many bytes it has.
-pub(crate) fn put_block(file: &[u8], heading: usize, into: &mut [u8]) -> usize {
-    let mut at = after(file, heading, b'\n');
-    let mut n = 0usize;
-    while at < file.len() {
-        let next = after(file, at, b'\n');
-        let times = number_at(file, at, b"", 1);
-        let kind = byte_at(file, times.at);
-        if (kind != b'|') & (kind != b'+') & (kind != b'~') & (kind != b'x') {
-            return n;
+    // The text of the lines below, as far as they are such lines: the part of the buffer that it fills.
+    pub(crate) fn put_text(self, buffer: &mut [u8]) -> &[u8] {
+        let mut text = Writer::new(buffer);
+        for line in self.below.split(|b| *b == b'\n') {
+            let c = read_number(line, start_at(0));
+            let times = if c.ok { c.latest } else { 1 };
+            let line = line.get(c.at..).unwrap_or(&[]);
+            if !matches!(line, [b'|' | b'+' | b'~' | b'x', ..]) {
+                break;
+            }
+            for _ in 0..times {
+                put_line(&mut text, line);
+            }
         }
-        n = put_times(part(file, times.at, next), times.latest, into, n);
-        at = next;
+        let n = text.at();
+        buffer.get(..n).unwrap_or(&[])
     }
-    n
 }
 
-// A line's text, so many times.
-fn put_times(line: &[u8], times: u32, into: &mut [u8], to: usize) -> usize {
-    let mut n = to;
-    let mut i = 0u32;
-    while i < times {
-        n = put_once(line, into, n);
-        i += 1;
-    }
-    n
+// The number that a word begins with, if it does.
+pub(crate) fn number_of(word: &[u8]) -> Option<usize> {
+    let c = read_number(word, start_at(0));
+    if c.ok { Some(c.latest as usize) } else { None }
 }
 
 // `|TEXT` is a line of text, `+TEXT` text without a line feed, `~ WORD WORD` lines that end in CR LF, `x HH HH` bytes in
 // hexadecimal.
-fn put_once(line: &[u8], into: &mut [u8], to: usize) -> usize {
-    let end = line.len();
-    if end == 0 {
-        return to;
-    }
-    let kind = line[0];
-    match kind {
-        b'|' => put_text(into, to, part(line, 1, end)),
-        b'+' => put_text(into, to, part(line, 1, end - 1)),
-        b'~' => put_words(line, into, to),
-        _ => put_bytes(line, into, to),
+fn put_line(given: &mut Writer<'_>, line: &[u8]) {
+    match line {
+        [b'|', text @ ..] => {
+            given.put_text(text);
+            given.put_byte(b'\n');
+        }
+        [b'+', text @ ..] => given.put_text(text),
+        [b'~', ..] => {
+            for word in line.split(|b| *b == b' ').skip(1) {
+                given.put_text(word);
+                given.put_text(b"\r\n");
+            }
+        }
+        _ => {
+            for word in line.split(|b| *b == b' ').skip(1) {
+                given.put_byte(byte_of(word));
+            }
+        }
     }
 }
 
-// Each word, after a space, is a line that ends in CR LF.
-fn put_words(line: &[u8], into: &mut [u8], to: usize) -> usize {
-    let mut n = to;
-    let mut at = after(line, 0, b' ');
-    while at < line.len() {
-        let next = after(line, at, b' ');
-        n = put_text(into, n, part(line, at, next - 1));
-        n = put_text(into, n, b"\r\n");
-        at = next;
-    }
-    n
-}
-
-// The two digits after each space are a byte.
-fn put_bytes(line: &[u8], into: &mut [u8], to: usize) -> usize {
-    let mut n = to;
-    let mut at = after(line, 0, b' ');
-    while at < line.len() {
-        let high = digit(byte_at(line, at));
-        let low = digit(byte_at(line, at + 1));
-        n = put_byte(into, n, high * 16 + low);
-        at = after(line, at, b' ');
-    }
-    n
-}
-
-// The value of a hexadecimal digit.
-fn digit(byte: u8) -> u8
-    ensures { result ≤ 15 }
-{
-    (byte % 16 + byte / 64 * 9) % 16
+// The byte that a word is in hexadecimal, or 0.
+fn byte_of(word: &[u8]) -> u8 {
+    str::from_utf8(word)
+        .ok()
+        .and_then(|hex| u8::from_str_radix(hex, 16).ok())
+        .unwrap_or(0)
 }

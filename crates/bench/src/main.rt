@@ -11,16 +11,19 @@ mod posts;
 mod yards;
 
 ghost use Rattle.std.specs.Io.{ReadsAtMost};
+ghost use Rattle.std.specs.Prelude.{◌≤◌};
 
-use cases::{after, number_at, part};
+use cases::{Block, number_of};
 use std::io;
 use std::io::Read;
+use text::Writer;
 
 // How many cases were run, and how many of them were the same.
 #[derive(Clone, Copy)]
 struct Counts {
-    pub cases: u64,
-    pub same: u64,
+    cases: usize,
+    same: usize,
+    ghost within: { same ≤ cases },
 }
 
 fn main(rt: HostRuntime) -> io::Result<()> {
@@ -31,11 +34,12 @@ fn main(rt: HostRuntime) -> io::Result<()> {
         "{} cases, {} same, {} different",
         counts.cases,
         counts.same,
-        counts.cases.wrapping_sub(counts.same)
+        counts.cases - counts.same
     )
 }
 
 // Reads standard input until the buffer is full, the input ends or a read fails: how many bytes stand in the buffer.
+// `drift` has the same function: no crate below the two programs reads input, and one for this alone would be no plainer.
 fn read_full(rt: &HostRuntime, buffer: &mut [u8]) -> io::Result<usize>
     ensures { ReadsAtMost result buffer.new }
 {
@@ -52,86 +56,71 @@ fn read_full(rt: &HostRuntime, buffer: &mut [u8]) -> io::Result<usize>
 
 // Runs each case on the input that stands above it.
 fn run_file(rt: &HostRuntime, file: &[u8]) -> io::Result<Counts> {
-    let mut counts = Counts { cases: 0, same: 0 };
-    let mut input = 0usize;
-    let mut at = 0usize;
-    while at < file.len() {
-        let letter = file[at];
-        if letter == b'i' {
-            input = at;
+    let mut cases = 0usize;
+    let mut same = 0usize;
+    let mut input = Block::first(b"");
+    let mut rest = file;
+    while !rest.is_empty() {
+        let block = Block::first(rest);
+        match block.word(0) {
+            b"input" => input = block,
+            b"case" => {
+                cases += 1;
+                if run_case(rt, input, block)? {
+                    same += 1;
+                }
+            }
+            _ => {}
         }
-        if letter == b'c' {
-            counts = Counts {
-                cases: counts.cases.wrapping_add(1),
-                same: counts.same.wrapping_add(run_case(rt, file, input, at)?),
-            };
-        }
-        at = after(file, at, b'\n');
+        rest = block.below;
     }
-    Ok(counts)
+    Ok(Counts { cases, same })
 }
 
-// `input NUMBER` and `case NAME VERB NUMBER` stand at these places: 1 where what the verb gives is what is expected, else 0.
-fn run_case(rt: &HostRuntime, file: &[u8], input_at: usize, at: usize) -> io::Result<u64> {
-    let mut input = [0u8; 49152];
-    let mut expected = [0u8; 8192];
-    let mut came = [0u8; 131072];
-    let n = cases::put_block(file, input_at, &mut input);
-    let given = part(&input, 0, n);
-    let n = cases::put_block(file, at, &mut expected);
-    let wanted = part(&expected, 0, n);
-    let set = number_at(file, after(file, input_at, b't'), b" ", 65536);
-    let name = after(file, at, b' ');
-    let verb = after(file, name, b' ');
-    let number = number_at(file, after(file, verb, b' '), b"", 0);
-    let n = run_verb(
-        scan::byte_at(file, verb),
-        number.latest as usize,
-        set.latest as usize,
-        given,
-        wanted,
-        &mut came,
-    );
-    tell(rt, part(file, name, verb), wanted, part(&came, 0, n))
+// `input NUMBER` and `case NAME VERB NUMBER`: whether what the verb gives is what is expected.
+fn run_case(rt: &HostRuntime, input: Block, case: Block) -> io::Result<bool> {
+    let mut given = [0; 49152];
+    let mut expected = [0; 8192];
+    let mut buffer = [0; script::OUTPUT];
+    let given = input.put_text(&mut given);
+    let expected = case.put_text(&mut expected);
+    let mut came = Writer::new(&mut buffer);
+    run_verb(case, input, given, expected, &mut came);
+    let n = came.at();
+    tell(rt, case.word(1), expected, buffer.get(..n).unwrap_or(&[]))
 }
 
-// What a verb gives; the verb is known by its first letter.
-fn run_verb<'a>(
-    letter: u8,
-    number: usize,
-    set: usize,
-    input: &'a [u8],
-    expected: &'a [u8],
-    came: &mut [u8],
-) -> usize {
-    match letter {
-        b'p' => yards::prints(input, set, &mut [0u8; yards::AIR], came),
-        b'a' | b'l' => yards::answers(input, set, letter == b'a', came),
-        b'e' => yards::equals(input, expected, set, came),
-        b'f' | b'n' | b't' => yards::shows(input, letter, number, came),
-        b'j' => answers::put_line(came, 0, b"", frame::drift_frame_check(input) as u16),
-        b'r' => frames::reads(input, came),
-        b'w' => frames::writes(input, number, &mut [255u8; 64], came),
-        b'c' => logs::composes(input, number, &mut [255u8; 4096], came),
-        b'i' => logs::imports(input, number, &mut [65535u16; logs::MOST], came),
-        b's' => posts::play(number, set, input, came),
-        _ => 0,
+// What the verb of a case gives. By its word in place: an enum of the verbs would say each word once more.
+fn run_verb(case: Block, input: Block, given: &[u8], expected: &[u8], came: &mut Writer<'_>) {
+    let set = number_of(input.word(1));
+    let air = set.unwrap_or(air::LENGTH);
+    let number = number_of(case.word(3)).unwrap_or(0);
+    match case.word(2) {
+        b"prints" => yards::prints(given, air, came),
+        b"answers" => yards::answers(given, air, true, came),
+        b"last" => yards::answers(given, air, false, came),
+        b"equals" => yards::equals(given, expected, air, came),
+        b"frame" => yards::frame(given, number, came),
+        b"number" => yards::number(given, came),
+        b"taken" => yards::taken(given, number, came),
+        b"singly" => posts::play(number, set.unwrap_or(0), given, came),
+        b"judges" => frames::judges(given, came),
+        b"reads" => frames::reads(given, came),
+        b"writes" => frames::writes(given, number, came),
+        b"composes" => logs::composes(given, number, came),
+        b"imports" => logs::imports(given, number, came),
+        _ => {}
     }
 }
 
-// Prints the case's name and how it came out: 1 where it is the same, else 0.
-fn tell<'a>(
-    rt: &HostRuntime,
-    name: &'a [u8],
-    expected: &'a [u8],
-    came: &'a [u8],
-) -> io::Result<u64> {
+// Prints the case's name and how it came out: whether it is the same.
+fn tell(rt: &HostRuntime, name: &[u8], expected: &[u8], came: &[u8]) -> io::Result<bool> {
     rt.write_all(name)?;
-    if cases::is_same(expected, came) {
-        rt.write_all(b"same\n")?;
-        return Ok(1);
+    if expected == came {
+        rt.write_all(b" same\n")?;
+        return Ok(true);
     }
-    rt.write_all(b"DIFFERENT, came\n")?;
+    rt.write_all(b" DIFFERENT, came\n")?;
     rt.write_all(came)?;
-    Ok(0)
+    Ok(false)
 }

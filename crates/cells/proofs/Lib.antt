@@ -1,3 +1,2 @@
-mod Laws
 pub mod Places
 pub mod Copies

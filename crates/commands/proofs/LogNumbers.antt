@@ -1,25 +1,22 @@
 -- The numbers of a row's log, order by order. Assumes nothing.
 use mathlib.Core.Path.{◌≡◌, refl, sym, ap, ◌∙◌}
-use mathlib.Core.Bool.{false, ◌&&◌}
 use mathlib.Core.List.{List, [], ◌∷◌, ◌++◌, map, map-append}
 use Prim.Native.Nat.{ℕ, suc, ◌+◌, ◌*◌, ◌/◌, ◌<◌, ◌≤◌}
 use native.Mathlib.Numerals.{add-one}
 use native.Mathlib.Omega.{arith}
-use lib.Dec.{ltb}
-use lib.ListN.{length, get_or, set, take, length-map, length-take}
+use lib.ListN.{length, get_or, set, take, drop, length-map, length-take}
 use lib.Seq.{sets, take-suc, length-take-le}
 use Rattle.post.specs.declared.Post.{Post}
-use Rattle.row.specs.Rows.{post_in}
+use Rattle.row.specs.Rows.{post_in, part}
 use Rattle.roll.specs.Logs.{order_at, orders_logged}
-use Rattle.printout.proofs.Laws.{items_done, cells_some}
 use Rattle.csv_log.specs.declared.LogItem.{LogItem}
 use Rattle.csv_log.specs.Log.{item_numbers}
 use Rattle.csv_log.proofs.Entries.{numbers_count}
 use Rattle.desk.specs.Desk.{item_of}
 
--- the numbers of the orders at the first k places of a log
-abbrev pub first_numbers : Post → ℕ → List ℕ
-first_numbers p k = item_numbers (map item_of (map (order_at p) (take k p.log)))
+-- the numbers of the orders at some places
+abbrev pub numbers_at : Post → List ℕ → List ℕ
+numbers_at p places = item_numbers (map item_of (map (order_at p) places))
 
 -- three numbers at a place
 pub order_put : (l : List ℕ) (i : ℕ) (p : Post) (place stamp word : ℕ) → stamp ≡ get_or p.stamps place 0 → word ≡ get_or p.words place 0
@@ -41,40 +38,28 @@ unfolding item_numbers
 numbers_append [] m = refl
 numbers_append (x ∷ l) m = ap (λ (r : List ℕ). x.stamp ∷ x.lane ∷ x.word ∷ r) (numbers_append l m)
 
-first_count : (p : Post) (k : ℕ) → k ≤ length p.log → length (first_numbers p k) ≡ 3 * k
-first_count p k h =
-    numbers_count (map item_of (map (order_at p) (take k p.log)))
-    ∙ ap (λ (n : ℕ). 3 * n) (length-map (map (order_at p) (take k p.log)) item_of ∙ length-map (take k p.log) (order_at p) ∙ length-take-le k p.log h)
+at_count : (p : Post) (places : List ℕ) → length (numbers_at p places) ≡ 3 * length places
+at_count p places =
+    numbers_count (map item_of (map (order_at p) places))
+    ∙ ap (λ (n : ℕ). 3 * n) (length-map (map (order_at p) places) item_of ∙ length-map places (order_at p))
 
-pub numbers_more : (l numbers after : List ℕ) (p : Post) (k place : ℕ) → k < length p.log → numbers ≡ sets l 0 (first_numbers p k) → place ≡ get_or p.log k 0
-    → after ≡ sets numbers (3 * k) (item_numbers (item_of (order_at p place) ∷ [])) → after ≡ sets l 0 (first_numbers p (k + 1))
-numbers_more l numbers after p k place h e ep f =
-    let n : 0 + length (first_numbers p k) ≡ 3 * k = omega (arith, first_count p k (omega arith)) in
-    f ∙ rw (e, ep, add-one, take-suc p.log k 0 h, map-append, map-append, numbers_append, sets_append l 0 (first_numbers p k), n)
+pub numbers_more : (l numbers after : List ℕ) (p : Post) (places : List ℕ) (k n place : ℕ) → k < length places → n ≡ 3 * k → numbers ≡ sets l 0 (numbers_at p (take k places))
+    → place ≡ get_or places k 0 → after ≡ sets numbers n (item_numbers (item_of (order_at p place) ∷ [])) → after ≡ sets l 0 (numbers_at p (take (k + 1) places))
+numbers_more l numbers after p places k n place h i e ep f =
+    let m : 0 + length (numbers_at p (take k places)) ≡ 3 * k = omega (arith, at_count p (take k places), length-take-le k places (omega arith)) in
+    f ∙ rw (i, e, ep, add-one, take-suc places k 0 h, map-append, map-append, numbers_append, sets_append l 0 (numbers_at p (take k places)), m)
 
 -- ---- all of them
 
--- a whole row has 128 places in its log
-pub whole_log : (row : List ℕ) → length row ≡ 543 → length (post_in row).log ≡ 128
-whole_log row h = sym (cells_some row 128 (omega arith) (omega arith))
+-- a log has no more than 128 places
+pub few_places : (row places : List ℕ) → places ≡ take (post_in row).logged (post_in row).log → length places ≤ 128
+unfolding post_in part
+few_places row places e = rw e (omega (arith, length-take (post_in row).logged (post_in row).log, length-take 128 (drop 414 row)))
 
-pub numbers_done : (row : List ℕ) (k n : ℕ) → length row ≡ 543 → n ≡ (post_in row).logged → k ≤ n → k ≤ 128 → (ltb k n && ltb k 128) ≡ false
-    → (3 * k ≡ length (item_numbers (map item_of (orders_logged (post_in row))))) × (first_numbers (post_in row) k ≡ item_numbers (map item_of (orders_logged (post_in row))))
-numbers_done row k n h e l m t =
-    let w = whole_log row h in
-    let d = items_done (post_in row).log k n l (rw w t) in
-    let q : first_numbers (post_in row) k ≡ item_numbers (map item_of (orders_logged (post_in row))) =
-    ap (λ (places : List ℕ). item_numbers (map item_of (map (order_at (post_in row)) places))) (d ∙ ap (λ (j : ℕ). take j (post_in row).log) e) in
-    (sym (first_count (post_in row) k (omega arith)) ∙ ap (λ (r : List ℕ). length r) q, q)
+pub numbers_done : (row places : List ℕ) (k n : ℕ) → places ≡ take (post_in row).logged (post_in row).log → k ≡ length places → n ≡ 3 * k
+    → n ≡ length (item_numbers (map item_of (orders_logged (post_in row))))
+numbers_done row places k n e h i = i ∙ rw (h, e) (sym (at_count (post_in row) (take (post_in row).logged (post_in row).log)))
 
 -- they are at most 384
-pub few_numbers : (row : List ℕ) → length row ≡ 543 → length (item_numbers (map item_of (orders_logged (post_in row)))) ≤ 384
-few_numbers row h =
-    omega (
-      arith,
-      numbers_count (map item_of (orders_logged (post_in row))),
-      length-map (orders_logged (post_in row)) item_of,
-      length-map (take (post_in row).logged (post_in row).log) (order_at (post_in row)),
-      length-take (post_in row).logged (post_in row).log,
-      whole_log row h,
-    )
+pub few_numbers : (row : List ℕ) → length (item_numbers (map item_of (orders_logged (post_in row)))) ≤ 384
+few_numbers row = omega (arith, at_count (post_in row) (take (post_in row).logged (post_in row).log), few_places row _ refl)

@@ -1,5 +1,5 @@
 -- What the commands `csv LANE` and `csv-read` give: document 02, K1. Assumes nothing.
-use Rattle.std.specs.Prelude.{ℕ, ◌≤◌, cond, List, ◌++◌, ltb, eqb, length, drop, replicate}
+use Rattle.std.specs.Prelude.{ℕ, ◌≤◌, cond, Result, Ok, Err, List, ◌++◌, ltb, eqb, length, drop, replicate}
 use Rattle.text.specs.Bytes.{bytes}
 use Rattle.cells.specs.Sets.{has_lane}
 use Rattle.lines.specs.Lines.{judged}
@@ -10,7 +10,8 @@ use Rattle.csv_log.specs.declared.LogItem.{LogItem}
 use Rattle.csv_log.specs.Text.{in_turn}
 use Rattle.csv_log.specs.Reading.{judged_file, log_read}
 use Rattle.desk.specs.Desk.{desk_file}
-use Rattle.commands.specs.declared.CsvMade.{CsvMade}
+use Rattle.refusal.specs.Numbers.{refusal_number}
+use Rattle.commands.specs.declared.NotMade.{NotMade}
 
 -- ---- `csv LANE`: the log of a lane after a script
 
@@ -25,8 +26,19 @@ command_world s = script_world s own_air
 abbrev pub lane_file : List ℕ → ℕ → List ℕ
 lane_file s lane = desk_file (command_world s) lane
 
+-- what comes of it: the file's length, or the refusal's number with the script's line where it is the script's own
+pub record CsvMade : Type 0 where
+  pub number : ℕ
+  pub line : ℕ
+  pub length : ℕ
+
 abbrev pub not_made : ℕ → ℕ → CsvMade
 not_made line number = record { number = number; line = line; length = 0 }
+
+-- the same of a result
+abbrev pub made_answer : Result ℕ NotMade → CsvMade
+made_answer (Ok length) = record { number = 0; line = 0; length = length }
+made_answer (Err no_file) = not_made no_file.line (refusal_number no_file.refusal)
 
 -- the script's own refusal with its line; then, with line 0, 4 for a lane over 7, 6 for a buffer that has not 2,048 bytes, 21 for a lane
 -- without a post; or the length of the file

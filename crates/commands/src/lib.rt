@@ -4,60 +4,64 @@
 mod lane_log;
 mod said;
 
-ghost use Rattle.std.specs.Prelude.{◌≡◌, length};
+ghost use Rattle.std.specs.Prelude.{◌≡◌};
 ghost use Rattle.lines.specs.Lines.{judged};
 ghost use Rattle.state.specs.States.{yard_in};
-ghost use Rattle.commands.specs.Csv.{command_world, not_made, csv_made, csv_buffer};
+ghost use Rattle.commands.specs.Csv.{command_world, made_answer, csv_made, csv_buffer};
 
 use frame::Frame;
+use lines::BadLine;
+use refusal::Refusal;
 pub use said::put_said;
 
-// The file of a lane's log: its length, or the refusal's number and the script's line where it is the script's own.
+// Why there is no file: the refusal, and the script's line where it is the script's own, or 0.
 #[derive(Clone, Copy)]
-pub struct CsvMade {
-    pub number: u8,
+pub struct NotMade {
     pub line: u16,
-    pub length: usize,
+    pub refusal: Refusal,
 }
 
-// Bytes of the air that a command runs its script on.
-const AIR: usize = 65536;
+impl From<Refusal> for NotMade {
+    ghost from_gives = { λ refusal no_file. no_file ≡ record { line = 0; refusal = refusal } };
 
-// The log of a lane after a script, as a CSV file at the start of a buffer of 2,048 bytes.
-pub fn csv_of_lane(script: &[u8], lane: usize, buffer: &mut [u8]) -> CsvMade
-    ensures value { result ≡ csv_made script.now lane buffer.old }
+    fn from(refusal: Refusal) -> NotMade {
+        NotMade { line: 0, refusal }
+    }
+}
+
+impl From<BadLine> for NotMade {
+    ghost from_gives = { λ bad no_file. no_file ≡ record { line = bad.line; refusal = bad.refusal } };
+
+    fn from(bad: BadLine) -> NotMade {
+        NotMade {
+            line: bad.line,
+            refusal: bad.refusal,
+        }
+    }
+}
+
+// The log of a lane after a script, as a CSV file at the start of a buffer of 2,048 bytes: its length.
+pub fn csv_of_lane(script: &[u8], lane: usize, buffer: &mut [u8]) -> Result<usize, NotMade>
+    ensures value { made_answer result ≡ csv_made script.now lane buffer.old }
     ensures bytes { buffer.new ≡ csv_buffer script.now lane buffer.old }
 {
-    let verdict = reader::judge(script);
-    if verdict.number != 0 {
-        return not_made(verdict.line, verdict.number);
-    }
-    if lane > (Frame::LAST_LANE as usize) {
-        return not_made(0, 4);
+    reader::judge(script)?;
+    if lane > usize::from(Frame::LAST_LANE) {
+        return Err(NotMade::from(Refusal::LaneOver7));
     }
     if buffer.len() != csv_log::BUFFER {
-        return not_made(0, 6);
+        return Err(NotMade::from(Refusal::BadLength));
     }
     let mut state = [0u16; state::LENGTH];
     run(script, &mut state);
-    lane_log::put_lane(&state, lane, buffer)
-}
-
-fn not_made(line: u16, number: u8) -> CsvMade
-    ensures { result ≡ not_made line number }
-{
-    CsvMade {
-        number: number,
-        line: line,
-        length: 0,
-    }
+    let length = lane_log::put_lane(&state, lane, buffer)?;
+    Ok(length)
 }
 
 // The yard that a script leaves in the state, run on an air of its own.
-fn run(script: &[u8], state: &mut [u16])
-    requires { ((judged script.now).number ≡ 0) × (length state.old ≡ 4483) }
+fn run(script: &[u8], state: &mut [u16; state::LENGTH])
+    requires { (judged script.now).number ≡ 0 }
     ensures { yard_in state.new ≡ (command_world script.now).yard }
 {
-    let mut air = [0u8; AIR];
-    script::drift_script_state(script, &mut air, state);
+    script::drift_script_state(script, &mut [0; air::LENGTH], state);
 }

@@ -9,7 +9,7 @@ use borrow.Author.Tests.{lt-ltb, le-ltb}
 use Rattle.csv_log.specs.Log.{Record, in_three, malformed, log_in, item_numbers, at_record, first_bad}
 use Rattle.csv_log.specs.Reading.{record_at, after_record, records_from}
 use Rattle.csv_log.specs.Seen.{refusal_by, found_with, item_found, record_refusal_by, record_seen, record_found}
-use Rattle.csv_log.proofs.Judging.{Judging, judging_start, judging_next, judging_bad, judging_end}
+use Rattle.csv_log.proofs.Judging.{Judging, judging_start, judging_next, judging_bad, judging_end, bad_seen}
 use Rattle.csv_log.proofs.ReadLaws.{after_above}
 
 -- the records from a place on, one and then the others, or none
@@ -36,38 +36,39 @@ found_next rest seen found joined (in_three x) k e z f =
     rw (f, q, d, a, b)
 
 -- up to a place no record is bad, and what is found leads to the numbers of all
-abbrev pub Finding : List ℕ → ℕ → List ℕ → ℕ → List ℕ → List ℕ → ℕ → Type 0
-Finding s from found₀ at seen found which =
-    (n : ℕ) × (length s ≤ at + n) × Judging seen (records_from s from (length s)) (records_from s at n) × (which ≡ get_or seen 0 0 + 1) × (get_or seen 0 0 ≤ 128)
+abbrev pub Finding : List ℕ → ℕ → List ℕ → ℕ → List ℕ → List ℕ → Type 0
+Finding s from found₀ at seen found =
+    (n : ℕ) × (length s ≤ at + n) × Judging seen (records_from s from (length s)) (records_from s at n) × (get_or seen 0 0 ≤ 128)
     × (sets found (3 * get_or seen 0 0) (item_numbers (log_in (records_from s at n))) ≡ sets found₀ 0 (item_numbers (log_in (records_from s from (length s)))))
 
-pub finding_start : (s found : List ℕ) (from : ℕ) → Finding s from found from (0 ∷ 0 ∷ 0 ∷ 0 ∷ 0 ∷ 0 ∷ 0 ∷ 0 ∷ 0 ∷ 0 ∷ 0 ∷ []) found 1
-finding_start s found from = (length s, omega arith, judging_start (records_from s from (length s)), refl, omega arith, refl)
+pub finding_start : (s found : List ℕ) (from : ℕ) → Finding s from found from (0 ∷ 0 ∷ 0 ∷ 0 ∷ 0 ∷ 0 ∷ 0 ∷ 0 ∷ 0 ∷ 0 ∷ 0 ∷ []) found
+finding_start s found from = (length s, omega arith, judging_start (records_from s from (length s)), omega arith, refl)
 
 -- a record more
-pub finding_next : (s found₀ seen found after joined : List ℕ) (from at which k a : ℕ) → Finding s from found₀ at seen found which → at < length s
+pub finding_next : (s found₀ seen found after joined : List ℕ) (from at k a : ℕ) → Finding s from found₀ at seen found → at < length s
     → k ≡ record_refusal_by seen (record_at s at) → k ≡ 0 → a ≡ after_record s at → after ≡ record_seen seen (record_at s at) → joined ≡ record_found seen found (record_at s at)
-    → Finding s from found₀ a after joined (which + 1)
-finding_next s found₀ seen found after joined from at which k a (zero, l, j, w, m, g) h e z i p q = absurd (omega arith)
-finding_next s found₀ seen found after joined from at which k a (suc n, l, j, w, m, g) h e z i p q =
+    → Finding s from found₀ a after joined
+finding_next s found₀ seen found after joined from at k a (zero, l, j, m, g) h e z i p q = absurd (omega arith)
+finding_next s found₀ seen found after joined from at k a (suc n, l, j, m, g) h e z i p q =
     let o = records_one s at n h in
     let t = judging_next (records_from s from (length s)) (records_from s (after_record s at) n) seen after (record_at s at) k (rw o at j) e z p in
     let f = found_next (records_from s (after_record s at) n) seen found joined (record_at s at) k e z q in
-    rw i (n, omega (arith, after_above s at h), t.0, rw (w, t.1), omega (arith, t.1, t.2), rw t.1 (sym f ∙ rw o at g))
+    rw i (n, omega (arith, after_above s at h), t.0, omega (arith, t.1, t.2), rw t.1 (sym f ∙ rw o at g))
 
 -- a bad one
-pub finding_bad : (s found₀ seen found : List ℕ) (from at which k : ℕ) → Finding s from found₀ at seen found which → at < length s
-    → k ≡ record_refusal_by seen (record_at s at) → (k ≡ 0 → ⊥) → at_record (which + 1) k ≡ first_bad [] (records_from s from (length s))
-finding_bad s found₀ seen found from at which k (zero, l, j, w, m, g) h e z = absurd (omega arith)
-finding_bad s found₀ seen found from at which k (suc n, l, j, w, m, g) h e z =
+pub finding_bad : (s found₀ seen found after : List ℕ) (from at k : ℕ) → Finding s from found₀ at seen found → at < length s
+    → k ≡ record_refusal_by seen (record_at s at) → (k ≡ 0 → ⊥) → after ≡ record_seen seen (record_at s at)
+    → (at_record (get_or after 0 0 + 2) k ≡ first_bad [] (records_from s from (length s))) × (get_or after 0 0 ≤ 128)
+finding_bad s found₀ seen found after from at k (zero, l, j, m, g) h e z p = absurd (omega arith)
+finding_bad s found₀ seen found after from at k (suc n, l, j, m, g) h e z p =
     let b = judging_bad (records_from s from (length s)) (records_from s (after_record s at) n) seen (record_at s at) k (rw (records_one s at n h) at j) e z in
-    let c : which + 1 ≡ get_or seen 0 0 + 2 = omega arith in
-    rw c (sym b)
+    rw (p, bad_seen seen (record_at s at) k e z) (sym b, m)
 
 -- no record more
-pub finding_end : (s found₀ seen found : List ℕ) (from at which : ℕ) → Finding s from found₀ at seen found which → length s ≤ at
-    → (at_record which 0 ≡ first_bad [] (records_from s from (length s))) × (found ≡ sets found₀ 0 (item_numbers (log_in (records_from s from (length s)))))
+pub finding_end : (s found₀ seen found : List ℕ) (from at : ℕ) → Finding s from found₀ at seen found → length s ≤ at
+    → (at_record (get_or seen 0 0 + 1) 0 ≡ first_bad [] (records_from s from (length s)))
+    × (found ≡ sets found₀ 0 (item_numbers (log_in (records_from s from (length s)))))
 unfolding log_in item_numbers
-finding_end s found₀ seen found from at which (n, l, j, w, m, g) h =
+finding_end s found₀ seen found from at (n, l, j, m, g) h =
     let o = records_none s at n h in
-    (rw w (sym (judging_end (records_from s from (length s)) seen (rw o at j))), rw o at g)
+    (sym (judging_end (records_from s from (length s)) seen (rw o at j)), rw o at g)

@@ -4,6 +4,7 @@ use mathlib.Core.List.{List, [], ◌∷◌}
 use Prim.Native.Nat.{ℕ, ◌+◌, ◌<◌}
 use native.Mathlib.Numerals.{add-one}
 use native.Mathlib.Omega.{arith}
+use Rattle.std.proofs.lemmas.Bool.Decides.{nat_tests}
 use lib.ListN.{length, get_or}
 use borrow.Author.Tests.{ne_eqb}
 use Rattle.csv_log.specs.declared.LogItem.{LogItem}
@@ -68,3 +69,8 @@ judging_bad all rest seen (in_three x) k (earlier, s, d) e h =
 pub judging_end : (all : List Record) (seen : List ℕ) → Judging seen all [] → first_bad [] all ≡ at_record (get_or seen 0 0 + 1) 0
 unfolding first_bad
 judging_end all seen (earlier, s, d) = rw (s, count_cell) d
+
+-- which is not kept
+pub bad_seen : (seen : List ℕ) (r : Record) (k : ℕ) → k ≡ record_refusal_by seen r → (k ≡ 0 → ⊥) → record_seen seen r ≡ seen
+unfolding seen_after
+bad_seen seen r k e h = grind (arith, nat_tests)

@@ -1,40 +1,24 @@
 -- A log whose records are all good: three numbers in range each, and at most 128 orders. Assumes nothing.
 use mathlib.Core.Path.{◌≡◌, refl, ap}
-use mathlib.Core.Bool.{Bool, true, false, cond, not, ◌&&◌}
+use mathlib.Core.Bool.{true}
 use mathlib.Core.List.{List, [], ◌∷◌, map}
-use Prim.Native.Nat.{ℕ, ◌+◌, ◌<◌, ◌≤◌}
+use Prim.Native.Nat.{◌+◌, ◌<◌, ◌≤◌}
 use native.Mathlib.Omega.{arith}
-use lib.Dec.{ltb, leb, eqb}
+use Rattle.std.proofs.lemmas.Bool.Decides.{nat_tests}
 use lib.ListN.{length}
-use borrow.Author.Tests.{ltb-true, leb-true, leb-false, eqb-true, eqb-false, not-false}
 use Rattle.csv_log.specs.declared.LogItem.{LogItem}
-use Rattle.csv_log.specs.Log.{Record, in_three, malformed, log_in, in_range, rises_after, count_of_lane, item_refusal, at_record, first_bad, GoodLog}
-use Rattle.scan.proofs.Laws.{both}
+use Rattle.csv_log.specs.Log.{Record, in_three, malformed, log_in, in_range, rises_after, count_of_lane, item_refusal, first_bad, GoodLog}
 
 -- ---- one record
-
--- a chain of refusals lets a record pass
-passed : (b : Bool) (number rest : ℕ) → 0 < number → cond b number rest ≡ 0 → (b ≡ false) × (rest ≡ 0)
-passed true number rest l e = absurd (omega arith)
-passed false number rest l e = (refl, e)
 
 pub item_passed : (earlier : List LogItem) (x : LogItem) → item_refusal earlier x ≡ 0
     → (in_range x ≡ true) × (rises_after earlier x ≡ true) × (length earlier < 128) × (count_of_lane x.lane earlier < 16)
 unfolding item_refusal
-item_passed earlier x e =
-    let a = passed (not (in_range x)) 31 _ (omega arith) e in
-    let b = passed (not (rises_after earlier x)) 32 _ (omega arith) a.1 in
-    let c = passed (leb 128 (length earlier)) 32 _ (omega arith) b.1 in
-    let d = passed (leb 16 (count_of_lane x.lane earlier)) 32 0 (omega arith) c.1 in
-    (not-false _ a.0, not-false _ b.0, leb-false _ _ c.0, leb-false _ _ d.0)
+item_passed earlier x e = grind (arith, nat_tests)
 
 pub in_range_lem : (x : LogItem) → in_range x ≡ true → (0 < x.stamp) × (x.stamp ≤ 65535) × (x.lane ≤ 7) × (x.word ≤ 65535)
 unfolding in_range
-in_range_lem x e =
-    let w = both (ltb 0 x.stamp && leb x.stamp 65535 && leb x.lane 7) (leb x.word 65535) e in
-    let l = both (ltb 0 x.stamp && leb x.stamp 65535) (leb x.lane 7) w.0 in
-    let s = both (ltb 0 x.stamp) (leb x.stamp 65535) l.0 in
-    (ltb-true _ _ s.0, leb-true _ _ s.1, leb-true _ _ l.1, leb-true _ _ w.1)
+in_range_lem x e = grind (arith, nat_tests)
 
 -- ---- records one after another
 
@@ -42,13 +26,7 @@ in_range_lem x e =
 pub first_passed : (earlier : List LogItem) (x : LogItem) (records : List Record) → (first_bad earlier (in_three x ∷ records)).number ≡ 0
     → (item_refusal earlier x ≡ 0) × ((first_bad (x ∷ earlier) records).number ≡ 0)
 unfolding first_bad
-first_passed earlier x records h = go (eqb (item_refusal earlier x) 0) refl h
-  where
-    go : (t : Bool) → eqb (item_refusal earlier x) 0 ≡ t
-        → (cond t (first_bad (x ∷ earlier) records) (at_record (length earlier + 2) (item_refusal earlier x))).number ≡ 0
-        → (item_refusal earlier x ≡ 0) × ((first_bad (x ∷ earlier) records).number ≡ 0)
-    go true e k = (eqb-true _ _ e, k)
-    go false e k = absurd (eqb-false _ _ e k)
+first_passed earlier x records h = grind (arith, nat_tests)
 
 -- a malformed record is bad
 pub malformed_bad : {X : Type 0} (earlier : List LogItem) (records : List Record) → (first_bad earlier (malformed ∷ records)).number ≡ 0 → X

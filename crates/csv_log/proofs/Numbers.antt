@@ -1,12 +1,11 @@
 -- The numbers of a log, three an order, and the log that they are. Assumes nothing.
 use mathlib.Core.Path.{◌≡◌, refl, ap}
-use mathlib.Core.Bool.{Bool, true, false, cond}
 use mathlib.Core.List.{List, [], ◌∷◌, map}
 use Prim.Native.Nat.{ℕ}
 use native.Mathlib.Omega.{arith}
-use lib.Dec.{eqb}
+use Rattle.std.proofs.lemmas.Bool.Decides.{nat_tests}
 use lib.ListN.{length}
-use borrow.Author.Tests.{eqb-true, eq-eqb}
+use borrow.Author.Tests.{eq-eqb}
 use Rattle.csv_log.specs.declared.LogItem.{LogItem}
 use Rattle.csv_log.specs.Log.{Record, in_three, log_item, log_in, item_numbers, first_bad}
 use Rattle.csv_log.specs.Writing.{records_in, csv_write_refusal}
@@ -33,12 +32,7 @@ records_numbers earlier (stamp ∷ lane ∷ word ∷ numbers) h =
 pub write_passed : (numbers buffer : List ℕ) → csv_write_refusal numbers buffer ≡ 0
     → (length buffer ≡ 2048) × ((first_bad [] (records_in numbers)).number ≡ 0)
 unfolding csv_write_refusal
-write_passed numbers buffer h = go (eqb (length buffer) 2048) refl h
-  where
-    go : (t : Bool) → eqb (length buffer) 2048 ≡ t → cond t (first_bad [] (records_in numbers)).number 6 ≡ 0
-        → (length buffer ≡ 2048) × ((first_bad [] (records_in numbers)).number ≡ 0)
-    go true e k = (eqb-true _ _ e, k)
-    go false e k = absurd (omega arith)
+write_passed numbers buffer h = grind (arith, nat_tests)
 
 pub write_passes : (numbers buffer : List ℕ) → length buffer ≡ 2048 → (first_bad [] (records_in numbers)).number ≡ 0
     → csv_write_refusal numbers buffer ≡ 0

@@ -4,22 +4,20 @@ use mathlib.Core.Bool.{Bool, true, false, cond, not}
 use mathlib.Core.List.{List}
 use Prim.Native.Nat.{ℕ, zero, suc, ◌+◌, ◌<◌, ◌≤◌}
 use native.Mathlib.Omega.{arith}
-use lib.Dec.{eqb, ltb}
+use lib.Dec.{ltb}
 use lib.ListN.{length}
 use native.Mathlib.Numerals.{add-one}
-use borrow.Author.Tests.{lt-ltb, le-ltb}
 use Rattle.scan.specs.declared.Scan.{Scan}
-use Rattle.scan.specs.Scan.{start_at, stands, read_text, read_number}
+use Rattle.scan.specs.Scan.{start_at, read_text, read_number}
 use Rattle.scan.proofs.Laws.{never}
 use Rattle.scan.proofs.TextLaws.{not_no}
 use Rattle.scan.proofs.Decimal.{at_least_1}
 use Rattle.scan.proofs.Number.{Read, number_sound}
 use Rattle.scan.proofs.Reading.{text_sound}
-use Rattle.fields.specs.Fields.{comma, crlf, quote, read_field, read_end, read_stamp, read_rest}
-use Rattle.csv_log.specs.declared.Taken.{Taken}
-use Rattle.csv_log.specs.Log.{log_item}
+use Rattle.fields.specs.Fields.{comma, read_field, read_end, read_stamp, read_rest}
+use Rattle.csv_log.specs.Log.{in_three, log_item}
 use Rattle.csv_log.specs.Reading.{rest_at, record_at, after_record}
-use Rattle.csv_log.specs.Seen.{refusal_by, seen_after, item_found, record_refusal_by, record_seen, record_found}
+use Rattle.csv_log.specs.Seen.{record_refusal_by, record_seen, record_found}
 use Rattle.csv_log.proofs.Laws.{not_off}
 
 -- ---- what a good scan has passed
@@ -33,24 +31,11 @@ number_on s c h = let r = number_sound s c h in (r.0, rw r.1.1 (omega (arith, at
 
 field_on : (s : List ℕ) (c : Scan) → (read_field s c).ok ≡ true → (c.ok ≡ true) × (c.at < (read_field s c).at)
 unfolding read_field
-field_on s c h = go (stands s c.at quote) h
-  where
-    go : (b : Bool) → (cond b (read_text s quote (read_number s (read_text s quote c))) (read_number s c)).ok ≡ true
-        → (c.ok ≡ true) × (c.at < (cond b (read_text s quote (read_number s (read_text s quote c))) (read_number s c)).at)
-    go true k =
-        let x = text_on s quote (read_number s (read_text s quote c)) k in
-        let y = number_on s (read_text s quote c) x.0 in
-        let z = text_on s quote c y.0 in
-        (z.0, omega arith)
-    go false k = number_on s c k
+field_on s c h = grind (arith, text_on, number_on)
 
 end_on : (s : List ℕ) (c : Scan) → (read_end s c).ok ≡ true → (c.ok ≡ true) × (c.at ≤ (read_end s c).at)
 unfolding read_end
-end_on s c h = go (eqb c.at (length s)) h
-  where
-    go : (b : Bool) → (cond b c (read_text s crlf c)).ok ≡ true → (c.ok ≡ true) × (c.at ≤ (cond b c (read_text s crlf c)).at)
-    go true k = (k, omega arith)
-    go false k = text_on s crlf c k
+end_on s c h = grind (arith, text_on)
 
 text_latest : (s t : List ℕ) (c : Scan) → (read_text s t c).ok ≡ true → (read_text s t c).latest ≡ c.latest
 text_latest s t c h = ap (λ (x : Scan). x.latest) (text_sound s t c h).2
@@ -65,30 +50,13 @@ number_earlier s c h = ap (λ (x : Scan). x.earlier) (number_sound s c h).1.1
 -- the latest number becomes the earlier one
 field_earlier : (s : List ℕ) (c : Scan) → (read_field s c).ok ≡ true → (read_field s c).earlier ≡ c.latest
 unfolding read_field
-field_earlier s c h = go (stands s c.at quote) h
-  where
-    go : (b : Bool) → (cond b (read_text s quote (read_number s (read_text s quote c))) (read_number s c)).ok ≡ true
-        → (cond b (read_text s quote (read_number s (read_text s quote c))) (read_number s c)).earlier ≡ c.latest
-    go true k =
-        let a = read_text s quote c in
-        let x = text_on s quote (read_number s a) k in
-        let y = number_on s a x.0 in
-        text_earlier s quote (read_number s a) k ∙ number_earlier s a x.0 ∙ text_latest s quote c y.0
-    go false k = number_earlier s c k
+field_earlier s c h = grind (arith, text_on, number_on, text_earlier, text_latest, number_earlier)
 
 -- ---- the fields of a record
 
 -- the scan of field k of a record, the comma before it being read
 unfoldable pub at_field : List ℕ → ℕ → Scan → Scan
 at_field s k c = cond (ltb 0 k) (read_text s comma c) c
-
-pub at_first : (s : List ℕ) (k : ℕ) (c d : Scan) → k ≤ 0 → d ≡ c → d ≡ at_field s k c
-unfolding at_field
-at_first s k c d l e = rw (le-ltb _ _ l) e
-
-pub at_next : (s : List ℕ) (k : ℕ) (c d : Scan) → 0 < k → d ≡ read_text s comma c → d ≡ at_field s k c
-unfolding at_field
-at_next s k c d l e = rw (lt-ltb _ _ l) e
 
 -- the scan after the first k fields of the record that begins at a place
 unfoldable pub fields_read : List ℕ → ℕ → ℕ → Scan
@@ -155,49 +123,30 @@ fields_stamp s at stamp k c i l h =
 
 -- ---- `take_record`, each way
 
-pub take_no : (s seen found : List ℕ) (at : ℕ) (t : Taken) → (rest_at s at).ok ≡ false → t ≡ record { number = 31; at = length s }
-    → (◌≡◌ {A = Taken} t (record { number = record_refusal_by seen (record_at s at); at = after_record s at }))
-    × ((seen ≡ record_seen seen (record_at s at)) × (found ≡ record_found seen found (record_at s at)))
-unfolding record_at after_record
-take_no s seen found at t o e = rw o (e, (refl, refl))
+pub take_no : (s seen found : List ℕ) (at : ℕ) → (rest_at s at).ok ≡ false
+    → (31 ≡ record_refusal_by seen (record_at s at)) × (seen ≡ record_seen seen (record_at s at)) × (found ≡ record_found seen found (record_at s at))
+unfolding record_at
+take_no s seen found at o = rw o (refl, refl, refl)
 
 pub end_off : (s : List ℕ) (at stamp k : ℕ) (c r : Scan) → Fields s at c stamp k → 3 ≤ k → r ≡ read_end s c → not r.ok ≡ true → (rest_at s at).ok ≡ false
 end_off s at stamp k c r i l e h = ap (λ (x : Scan). x.ok) (sym (fields_end s at stamp k c r i l e)) ∙ not_off r.ok h
 
-pub take_yes : (s seen found after joined : List ℕ) (at stamp k n : ℕ) (c r : Scan) → Fields s at c stamp k → 3 ≤ k → r ≡ read_end s c → not r.ok ≡ false
-    → (n ≡ refusal_by seen (log_item stamp r.earlier r.latest))
-    × ((after ≡ seen_after seen (log_item stamp r.earlier r.latest)) × (joined ≡ item_found seen found (log_item stamp r.earlier r.latest)))
-    → (◌≡◌ {A = Taken} (record { number = n; at = r.at }) (record { number = record_refusal_by seen (record_at s at); at = after_record s at }))
-    × ((after ≡ record_seen seen (record_at s at)) × (joined ≡ record_found seen found (record_at s at)))
+-- the record read, and where the next one begins
+pub take_yes : (s : List ℕ) (at stamp k : ℕ) (c r : Scan) → Fields s at c stamp k → 3 ≤ k → r ≡ read_end s c → not r.ok ≡ false
+    → (record_at s at ≡ in_three (log_item stamp r.earlier r.latest)) × (r.at ≡ after_record s at)
 unfolding record_at after_record
-take_yes s seen found after joined at stamp k n c r i l e h g =
+take_yes s at stamp k c r i l e h =
     let q = fields_end s at stamp k c r i l e in
     let o : (rest_at s at).ok ≡ true = ap (λ (x : Scan). x.ok) (sym q) ∙ not_no r.ok h in
     let t = fields_stamp s at stamp k c i l o in
-    rw (o, ← q, ← t) (ap (λ (m : ℕ). record { number = m; at = r.at }) g.0, g.1)
+    rw (o, ← q, ← t) (refl, refl)
 
 -- ---- the next record begins further on
 
 rest_on : (s : List ℕ) (c : Scan) → (read_rest s c).ok ≡ true → (c.ok ≡ true) × (c.at < (read_rest s c).at)
 unfolding read_rest
-rest_on s c h =
-    let a = read_text s comma c in
-    let b = read_field s a in
-    let d = read_text s comma b in
-    let e = end_on s (read_field s d) h in
-    let f = field_on s d e.0 in
-    let g = text_on s comma b f.0 in
-    let i = field_on s a g.0 in
-    let j = text_on s comma c i.0 in
-    (j.0, omega arith)
+rest_on s c h = grind (arith, text_on, field_on, end_on)
 
 pub after_above : (s : List ℕ) (at : ℕ) → at < length s → at < after_record s at
 unfolding after_record read_stamp
-after_above s at l = go (rest_at s at).ok refl
-  where
-    go : (b : Bool) → (rest_at s at).ok ≡ b → at < cond b (rest_at s at).at (length s)
-    go true e =
-        let r = rest_on s (read_stamp s at) e in
-        let f = field_on s (start_at at) r.0 in
-        omega (arith, r.1, f.1)
-    go false e = l
+after_above s at l = grind (arith, rest_on, field_on)

@@ -1,7 +1,6 @@
 -- A log for the charging desk, and refusals 31 and 32 of its records: document 02, K1. Assumes nothing.
 use Rattle.std.specs.Prelude.{ℕ, ◌+◌, Bool, true, cond, not, ◌&&◌, ◌||◌, ◌≡◌, List, [], ◌∷◌, ◌++◌, map, ltb, leb, eqb, length}
 use Rattle.csv_log.specs.declared.LogItem.{LogItem}
-use Rattle.csv_log.specs.declared.FirstBad.{FirstBad}
 
 -- "A log here is its list of stamp, lane and word": a LogItem is one of them
 abbrev pub log_item : ℕ → ℕ → ℕ → LogItem
@@ -53,6 +52,11 @@ item_refusal earlier x =
     0)))
 
 -- ---- all records
+
+-- which record is the first bad one, and its number
+pub record FirstBad : Type 0 where
+  pub which : ℕ
+  pub number : ℕ
 
 abbrev pub at_record : ℕ → ℕ → FirstBad
 at_record which number = record { which = which; number = number }

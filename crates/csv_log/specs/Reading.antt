@@ -1,10 +1,11 @@
 -- What a file says, and what reading it answers and leaves: document 02, K1, and RFC 4180. Assumes nothing.
-use Rattle.std.specs.Prelude.{ℕ, zero, suc, ◌+◌, ◌*◌, cond, List, [], ◌∷◌, ◌++◌, ltb, eqb, length, drop}
+use Rattle.std.specs.Prelude.{ℕ, zero, suc, ◌+◌, ◌*◌, cond, List, [], ◌∷◌, ◌++◌, ltb, eqb, length, drop, Result, Ok, Err}
 use Rattle.scan.specs.declared.Scan.{Scan}
 use Rattle.fields.specs.Fields.{read_header, read_stamp, read_rest}
+use Rattle.refusal.specs.Numbers.{refusal_number}
 use Rattle.csv_log.specs.declared.LogItem.{LogItem}
-use Rattle.csv_log.specs.declared.FirstBad.{FirstBad}
-use Rattle.csv_log.specs.Log.{Record, in_three, malformed, log_item, log_in, item_numbers, at_record, first_bad}
+use Rattle.csv_log.specs.declared.reading.BadRecord.{BadRecord}
+use Rattle.csv_log.specs.Log.{Record, in_three, malformed, log_item, log_in, item_numbers, FirstBad, at_record, first_bad}
 
 -- ---- records
 
@@ -37,6 +38,11 @@ judged_file s =
     cond (ltb 48000 (length s)) (at_record 0 1)
     (cond (read_header s).ok (first_bad [] (records_of s))
     (at_record 1 31))
+
+-- the first bad record, or that none is, beside how many records there are
+abbrev pub bad_in : Result ℕ BadRecord → FirstBad
+bad_in (Ok orders) = at_record (orders + 1) 0
+bad_in (Err bad) = at_record bad.which (refusal_number bad.refusal)
 
 -- the log that a good file says
 abbrev pub log_read : List ℕ → List LogItem

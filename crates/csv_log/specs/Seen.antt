@@ -1,10 +1,16 @@
--- What the code keeps of the records before one, as eleven cells, for the contracts of private functions; nobody has to believe it.
--- Assumes nothing.
-use Rattle.std.specs.Prelude.{ℕ, ◌+◌, ◌*◌, Bool, cond, ◌&&◌, List, ltb, eqb, get_or, set}
+-- What the code keeps of the records before one, as eleven cells, for the contracts of private functions; nobody has to believe it. Assumes nothing.
+use Rattle.std.specs.Prelude.{ℕ, ◌+◌, ◌*◌, Bool, cond, ◌&&◌, List, [], ◌∷◌, ltb, eqb, get_or, set}
 use Rattle.csv_log.specs.declared.LogItem.{LogItem}
+use Rattle.csv_log.specs.declared.seen.Seen.{Seen}
 use Rattle.csv_log.specs.Log.{Record, in_three, malformed, log_item, in_range, rises}
 
 -- cell 0: how many there are, 1 and 2: stamp and lane of the last, from 3 on: how many each lane has
+abbrev pub cells_of : Seen → List ℕ
+cells_of seen = seen.orders ∷ seen.stamp ∷ seen.lane ∷ seen.lanes
+
+abbrev pub none_seen : Seen
+none_seen = record { orders = 0; stamp = 0; lane = 0; lanes = 0 ∷ 0 ∷ 0 ∷ 0 ∷ 0 ∷ 0 ∷ 0 ∷ 0 ∷ [] }
+
 abbrev pub rises_by : List ℕ → LogItem → Bool
 rises_by seen x = rises (log_item (get_or seen 1 0) (get_or seen 2 0) 0) x
 

@@ -11,7 +11,8 @@ use lib.ListN.{get_or}
 use borrow.Author.Tests.{ltb-true, eqb-true, lt-ltb, le-ltb}
 use Rattle.frame.specs.Lanes.{any_below}
 use Rattle.post.specs.declared.Post.{Post}
-use Rattle.deliver.specs.declared.Least.{Least}
+use Rattle.std.specs.Prelude.{Option}
+use Rattle.frame.specs.declared.Stamp.{Stamp}
 use Rattle.deliver.specs.Delivery.{NewLog}
 use Rattle.deliver.specs.Delivery.{is_taken, is_logged, is_due, stamp_at, all_below, agrees, sort_by}
 use Rattle.deliver.specs.Known.{is_due_from, due_below_from, due_places_from, due_log_from}
@@ -70,7 +71,7 @@ any_past test n (suc m) h =
 
 -- ---- one turn more
 
-module _ (known last stamps : List ℕ) (least : Least) (lane : ℕ) where
+module _ (known last stamps : List ℕ) (least : Option Stamp) (lane : ℕ) where
   abbrev test : ℕ → Bool
   test = ready_at known last stamps least lane
 
@@ -96,11 +97,11 @@ module _ (known last stamps : List ℕ) (least : Least) (lane : ℕ) where
       let z : 0 + n ≡ n = omega arith in
       none_yet test ∙ sym (any_past test 0 n (λ i a b. known_not i (omega arith))) ∙ ap (any_below test) z
 
-  pub ready_more : (k : ℕ) (b x : Bool) (s : ℕ) → get_or known lane 0 ≤ k → k < min (get_or last lane 0) 16 → b ≡ any_below test (min k 16)
-      → s ≡ get_or stamps (lane * 16 + k) 0 → x ≡ up_to least s → (b || x) ≡ any_below test (min (k + 1) 16)
+  pub ready_more : (k j : ℕ) (b x : Bool) (s : ℕ) → j ≡ k + 1 → get_or known lane 0 ≤ k → k < min (get_or last lane 0) 16 → b ≡ any_below test (min k 16)
+      → s ≡ get_or stamps (lane * 16 + k) 0 → x ≡ up_to least s → (b || x) ≡ any_below test (min j 16)
   unfolding ready_at
-  ready_more k b x s h l p e q =
-      let i : min (k + 1) 16 ≡ k + 1 = omega arith in
+  ready_more k n b x s g h l p e q =
+      let i : min n 16 ≡ k + 1 = omega arith in
       let j : min k 16 ≡ k = omega arith in
       let t : ltb k (get_or last lane 0) ≡ true = lt-ltb k (get_or last lane 0) (omega arith) in
       let u : ltb k (get_or known lane 0) ≡ false = le-ltb k (get_or known lane 0) h in
@@ -149,7 +150,7 @@ module _ (known : List ℕ) (p : Post) where
   not_ready true true agreed passed h = refl
   not_ready true false agreed passed h = h
 
-  abbrev least : Least
+  abbrev least : Option Stamp
   least = least_below p.sources p.last p.table 8
 
   ready_there : (place : ℕ) → place < 128 → any_below (ready_in known p.last p.stamps least) 8 ≡ false

@@ -2,17 +2,19 @@
 use mathlib.Core.Path.{◌≡◌, sym, ap, ◌∙◌}
 use mathlib.Core.List.{List, map}
 use mathlib.Core.Bool.{Bool, true, false}
-use Prim.Native.Nat.{ℕ, ◌+◌, ◌%◌, ◌≤◌, min}
+use Prim.Native.Nat.{ℕ, ◌%◌, ◌≤◌, min}
 use native.Mathlib.Omega.{arith}
-use lib.ListN.{length, replicate, length-take, length-map}
+use lib.ListN.{length, length-take, length-map}
 use lib.Seq.{sets}
 use Rattle.frame.specs.Lanes.{any_below}
 use Rattle.post.specs.declared.Post.{Post}
 use Rattle.post.specs.Record.{is_dest}
-use Rattle.deliver.specs.declared.Least.{Least}
+use Rattle.std.specs.Prelude.{Option}
+use Rattle.frame.specs.declared.Stamp.{Stamp}
+use Rattle.deliver.specs.declared.sorting.Gathered.{Gathered}
 use Rattle.deliver.specs.Delivery.{NewLog, all_below, comes_before, sort_by}
 use Rattle.deliver.specs.Known.{due_below_from, due_places_from, due_log_from, joined_from}
-use Rattle.deliver.specs.Loops.{same_at, ready_in, least_below, marks_below, Gathered, gathered, gathered_all, appended_below, log_by}
+use Rattle.deliver.specs.Loops.{same_at, ready_in, least_below, appended_below, log_by}
 use Rattle.deliver.specs.Keys.{key_at}
 use Rattle.deliver.proofs.Keys.{places_of}
 use Rattle.deliver.proofs.Gathering.{gathered_of_all, sorts, appended_is}
@@ -36,26 +38,17 @@ log_is known p =
     in
     rw (lg, ← ln)
 
--- `join_ready`
-pub ready_log : (known last stamps : List ℕ) (least : Least) (log : List ℕ) (logged old : ℕ) (marks keys new : List ℕ) (n t : ℕ) → old ≡ min logged 128
-    → marks ≡ marks_below log old
-    → ◌≡◌ {A = Gathered} (record { keys = keys; count = n }) (gathered known last stamps marks least (record { keys = replicate 128 0; count = 0 }) 0 128)
-    → new ≡ appended_below log logged keys n → t ≡ min (logged + n) 128
-    → ◌≡◌ {A = NewLog} (record { log = new; logged = t; count = n }) (log_by known last stamps least log logged)
-unfolding log_by gathered_all
-ready_log known last stamps least log logged old marks keys new n t eo em eg ea et = rw (← eo, ← em, ← eg, ea, et)
-
 -- the log where none joins it
 abbrev pub none_joined : Post → NewLog
 none_joined p = record { log = p.log; logged = min p.logged 128; count = 0 }
 
 -- the ways through `join`
-pub join_ready : (known : List ℕ) (p : Post) (least : Least) (new : NewLog) → least ≡ least_below p.sources p.last p.table 8
+pub join_ready : (known : List ℕ) (p : Post) (least : Option Stamp) (new : NewLog) → least ≡ least_below p.sources p.last p.table 8
     → new ≡ log_by known p.last p.stamps least p.log p.logged
     → new ≡ due_log_from known p
 join_ready known p least new el e = rw (← log_is known p, ← el) e
 
-pub join_unready : (known : List ℕ) (p : Post) (least : Least) (b : Bool) → least ≡ least_below p.sources p.last p.table 8
+pub join_unready : (known : List ℕ) (p : Post) (least : Option Stamp) (b : Bool) → least ≡ least_below p.sources p.last p.table 8
     → b ≡ any_below (ready_in known p.last p.stamps least) 8 → b ≡ false → none_joined p ≡ due_log_from known p
 join_unready known p least b el e f = none_ready known p (rw el at (sym e ∙ f))
 

@@ -1,9 +1,9 @@
 -- Delivery on a row. Assumes nothing.
-use Rattle.std.specs.Prelude.{cond, List, ℕ, ◌-◌, leb, length}
+use Rattle.std.specs.Prelude.{cond, Option, List, ℕ, ◌-◌, leb, length}
 use Rattle.post.specs.declared.Post.{Post}
 use Rattle.post.specs.Record.{with_log}
 use Rattle.row.specs.Rows.{post_in, known_in}
-use Rattle.deliver.specs.declared.Least.{Least}
+use Rattle.frame.specs.declared.Stamp.{Stamp}
 use Rattle.deliver.specs.Delivery.{NewLog}
 use Rattle.deliver.specs.Known.{KnownDelivery, delivered_from, due_log_from, joined_from, known_below}
 use Rattle.deliver.specs.Loops.{log_by}
@@ -27,7 +27,7 @@ joined_in row = joined_from (known_in row) (post_in row)
 unfoldable pub due_in : List ℕ → NewLog
 due_in row = due_log_from (known_in row) (post_in row)
 
-unfoldable pub by_in : List ℕ → Least → NewLog
+unfoldable pub by_in : List ℕ → Option Stamp → NewLog
 by_in row least = log_by (known_in row) (post_in row).last (post_in row).stamps least (post_in row).log (post_in row).logged
 
 -- what is known once this log is the row's

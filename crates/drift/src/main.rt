@@ -6,22 +6,37 @@
 ghost use Rattle.std.specs.Prelude.{◌≤◌, length};
 ghost use Rattle.std.specs.Io.{ReadsAtMost};
 
-use scan::{read_number, stands_at, start_at};
+use commands::NotMade;
+use refusal::Refusal;
+use scan::{read_number, start_at};
 use std::env::FillError;
-use std::io;
 use std::io::{ErrorKind, Read};
 use std::process::ExitCode;
 use std::rt::Env;
-use text::put_labelled;
+use std::{fmt, io};
 
 // What the arguments ask for.
 #[derive(Clone, Copy)]
 enum Command {
     Script,
-    Csv(usize),
+    Csv { lane: u8 },
     CsvRead,
+}
+
+// Why the arguments ask for nothing.
+#[derive(Clone, Copy)]
+enum Misuse {
     BadLane,
     Unknown,
+}
+
+impl fmt::Display for Misuse {
+    fn fmt<W: fmt::Write>(&self, f: &mut fmt::Formatter<W>) -> fmt::Result {
+        match self {
+            Misuse::BadLane => write!(f, "a lane is a number from 0 to 7"),
+            Misuse::Unknown => write!(f, "the commands are csv LANE and csv-read"),
+        }
+    }
 }
 
 // A script or file of 48,001 bytes is refused, so no more are read.
@@ -30,77 +45,52 @@ const INPUT: usize = 48001;
 // What `csv-read` prints fits.
 const SAID: usize = 2054;
 
+// As many bytes of an argument as are looked at: a longer one is no word of a command.
+const WORD: usize = 16;
+
 // The status where the reader of the output has stopped reading: what a shell says of a program that SIGPIPE ended.
 const READER_STOPPED: u8 = 141;
 
-// The lane that an argument names, or 8 where it names none.
-fn lane_of(word: &[u8]) -> usize {
+// The lane that an argument names.
+fn lane_of(word: &[u8]) -> Option<u8> {
     let c = read_number(word, start_at(0));
-    if c.ok & (c.at == word.len()) & (c.latest < 8) {
-        c.latest as usize
+    if c.ok && c.at == word.len() && c.latest < 8 {
+        Some(c.latest as u8)
     } else {
-        8
+        None
     }
 }
 
-// `csv` of the lane that an argument names.
-fn csv_of(word: &[u8]) -> Command {
-    let lane = lane_of(word);
-    if lane < 8 {
-        Command::Csv(lane)
-    } else {
-        Command::BadLane
-    }
-}
-
-// Argument i stands at the start of the buffer: its length, or 0 where it is missing or longer than the buffer.
-fn argument(rt: &HostRuntime, i: usize, buffer: &mut [u8]) -> usize
-    ensures { result ≤ length buffer.new }
-{
-    match rt.arg(i, buffer) {
-        Ok(n) => n,
-        Err(_) => 0,
-    }
+// Argument i, where it is there and fits the buffer.
+fn argument<'a>(rt: &HostRuntime, i: usize, buffer: &'a mut [u8; WORD]) -> Option<&'a [u8]> {
+    let n = rt.arg(i, buffer).ok()?;
+    buffer.get(..n)
 }
 
 // How many arguments the program was started with, its own name among them; 4 for all that are more.
 fn argument_count(rt: &HostRuntime) -> usize {
-    for i in 0..4usize {
-        if let Err(FillError::NotPresent) = rt.arg(i, &mut [0u8; 16]) {
-            return i;
-        }
-    }
-    4
+    (0..4)
+        .find(|&i| matches!(rt.arg(i, &mut [0; WORD]), Err(FillError::NotPresent)))
+        .unwrap_or(4)
 }
 
-// The command that the first of some arguments names.
-fn named(rt: &HostRuntime, word: &[u8], count: usize) -> Command {
-    if (count == 2) & (word.len() == 8) & stands_at(word, 0, b"csv-read") {
-        return Command::CsvRead;
-    }
-    if (count == 3) & (word.len() == 3) & stands_at(word, 0, b"csv") {
-        let mut lane = [0u8; 16];
-        let n = argument(rt, 2, &mut lane);
-        return csv_of(&lane[..n]);
-    }
-    Command::Unknown
-}
-
-fn asked(rt: &HostRuntime) -> Command {
+fn asked(rt: &HostRuntime) -> Result<Command, Misuse> {
     let count = argument_count(rt);
     if count < 2 {
-        return Command::Script;
+        return Ok(Command::Script);
     }
-    let mut word = [0u8; 16];
-    let n = argument(rt, 1, &mut word);
-    named(rt, &word[..n], count)
-}
-
-// A line on standard error.
-fn tell(rt: &HostRuntime, words: &[u8]) -> ExitCode {
-    let _ = rt.stderr().write_all(words);
-    let _ = rt.stderr().write_all(b"\n");
-    ExitCode::SUCCESS
+    let mut word = [0; WORD];
+    match (argument(rt, 1, &mut word), count) {
+        (Some(b"csv-read"), 2) => Ok(Command::CsvRead),
+        (Some(b"csv"), 3) => {
+            let mut word = [0; WORD];
+            let lane = argument(rt, 2, &mut word).and_then(lane_of);
+            Ok(Command::Csv {
+                lane: lane.ok_or(Misuse::BadLane)?,
+            })
+        }
+        _ => Err(Misuse::Unknown),
+    }
 }
 
 // A line on standard error: what failed, and why.
@@ -109,69 +99,62 @@ fn fail(rt: &HostRuntime, what: &str, why: io::Error) -> ExitCode {
     ExitCode::FAILURE
 }
 
-// The first n bytes as a line on standard error.
-fn tell_first(rt: &HostRuntime, words: &[u8], n: usize) -> ExitCode {
-    if n <= words.len() {
-        return tell(rt, &words[..n]);
-    }
-    ExitCode::SUCCESS
+// The first n bytes of a buffer, or all that there are.
+fn first(bytes: &[u8], n: usize) -> &[u8] {
+    bytes.get(..n).unwrap_or(bytes)
 }
 
-// The first n bytes go to standard output. That its reader has stopped reading is not told.
-fn print_first(rt: &HostRuntime, output: &[u8], n: usize) -> ExitCode {
-    if n <= output.len() {
-        if let Err(why) = rt.write_all(&output[..n]) {
-            if why.kind() == ErrorKind::BrokenPipe {
-                return ExitCode::from(READER_STOPPED);
-            }
-            return fail(rt, "drift: the output cannot be written", why);
+// Bytes on standard output. That its reader has stopped reading is not told.
+fn print(rt: &HostRuntime, output: &[u8]) -> ExitCode {
+    match rt.write_all(output) {
+        Ok(()) => ExitCode::SUCCESS,
+        Err(why) if why.kind() == ErrorKind::BrokenPipe => ExitCode::from(READER_STOPPED),
+        Err(why) => fail(rt, "drift: the output cannot be written", why),
+    }
+}
+
+// A script's printout.
+fn run_script(rt: &HostRuntime, text: &[u8]) -> ExitCode {
+    let mut air = [0; air::LENGTH];
+    let mut output = [0; script::OUTPUT];
+    let printed = script::drift_run_script(text, &mut air, &mut output);
+    print(rt, first(&output, printed))
+}
+
+// What a CSV file says.
+fn read_csv(rt: &HostRuntime, text: &[u8]) -> ExitCode {
+    let mut output = [0; SAID];
+    let said = commands::put_said(&mut output, text);
+    print(rt, first(&output, said))
+}
+
+// A script's log of a lane as a CSV file.
+fn write_csv(rt: &HostRuntime, text: &[u8], lane: u8) -> ExitCode {
+    let mut buffer = [0; csv_log::BUFFER];
+    match commands::csv_of_lane(text, usize::from(lane), &mut buffer) {
+        Ok(length) => return print(rt, first(&buffer, length)),
+        Err(
+            NotMade {
+                refusal: Refusal::NotInYard,
+                ..
+            },
+        ) => {
+            let _ = eprintln!(rt; "there is no post at lane {lane}");
+        }
+        Err(NotMade { line, refusal }) => {
+            let number = u8::from(refusal);
+            let _ = eprintln!(rt; "the script is refused: line {line}, number {number}");
         }
     }
     ExitCode::SUCCESS
 }
 
-// A script's printout.
-fn run_script(rt: &HostRuntime, text: &[u8]) -> ExitCode {
-    let mut air = [0u8; 65536];
-    let mut output = [0u8; script::OUTPUT];
-    let printed = script::drift_run_script(text, &mut air, &mut output);
-    print_first(rt, &output, printed)
-}
-
-// What a CSV file says.
-fn read_csv(rt: &HostRuntime, text: &[u8]) -> ExitCode {
-    let mut output = [0u8; SAID];
-    let said = commands::put_said(&mut output, text);
-    print_first(rt, &output, said)
-}
-
-// A script's log of a lane as a CSV file.
-fn write_csv(rt: &HostRuntime, text: &[u8], lane: usize) -> ExitCode {
-    let mut buffer = [0u8; csv_log::BUFFER];
-    let made = commands::csv_of_lane(text, lane, &mut buffer);
-    if made.number == 0 {
-        return print_first(rt, &buffer, made.length);
-    }
-    let mut words = [0u8; 64];
-    if made.number == 21 {
-        let a = put_labelled(
-            &mut words,
-            0,
-            b"there is no post at lane ",
-            (lane % 8) as u16,
-        );
-        return tell_first(rt, &words, a);
-    }
-    let a = put_labelled(&mut words, 0, b"the script is refused: line ", made.line);
-    let a = put_labelled(&mut words, a, b", number ", made.number as u16);
-    tell_first(rt, &words, a)
-}
-
 // Reads standard input until the buffer is full, the input ends or a read fails: how many bytes stand in the buffer.
+// `bench` has the same function: no crate below the two programs reads input, and one for this alone would be no plainer.
 fn read_full(rt: &HostRuntime, buffer: &mut [u8]) -> io::Result<usize>
     ensures { ReadsAtMost result buffer.new }
 {
-    let mut done = 0usize;
+    let mut done = 0;
     while done < buffer.len() {
         let n = rt.stdin().read(&mut buffer[done..])?;
         if n == 0 {
@@ -184,25 +167,24 @@ fn read_full(rt: &HostRuntime, buffer: &mut [u8]) -> io::Result<usize>
 
 // Runs a command on standard input.
 fn run(rt: &HostRuntime, command: Command) -> ExitCode {
-    let mut text = [0u8; INPUT];
-    let n = match read_full(rt, &mut text) {
-        Ok(n) => n,
+    let mut text = [0; INPUT];
+    let text = match read_full(rt, &mut text) {
+        Ok(n) => &text[..n],
         Err(why) => return fail(rt, "drift: the input cannot be read", why),
     };
     match command {
-        Command::Script => run_script(rt, &text[..n]),
-        Command::Csv(lane) => write_csv(rt, &text[..n], lane),
-        Command::CsvRead => read_csv(rt, &text[..n]),
-        Command::BadLane => ExitCode::SUCCESS,
-        Command::Unknown => ExitCode::SUCCESS,
+        Command::Script => run_script(rt, text),
+        Command::Csv { lane } => write_csv(rt, text, lane),
+        Command::CsvRead => read_csv(rt, text),
     }
 }
 
 fn main(rt: HostRuntime) -> ExitCode {
-    let command = asked(&rt);
-    match command {
-        Command::BadLane => tell(&rt, b"a lane is a number from 0 to 7"),
-        Command::Unknown => tell(&rt, b"the commands are csv LANE and csv-read"),
-        _ => run(&rt, command),
+    match asked(&rt) {
+        Ok(command) => run(&rt, command),
+        Err(misuse) => {
+            let _ = eprintln!(rt; "{misuse}");
+            ExitCode::SUCCESS
+        }
     }
 }

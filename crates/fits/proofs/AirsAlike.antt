@@ -14,7 +14,7 @@ use Rattle.air.proofs.Stretches.{same_stretch, length_stays, others_stay, frame_
 use Rattle.post.specs.declared.Post.{Post}
 use Rattle.steps.specs.Refusals.{not_in_yard}
 use Rattle.steps.specs.Steps.{order_step, hear_step, beacon_step}
-use Rattle.steps.specs.declared.HearAnswer as hearings
+use Rattle.steps.specs.HearAnswer as hearings
 use Rattle.state.specs.Yards.{Yard, post_at, beacons_at}
 use Rattle.yard.specs.Singles.{frames_after, stops_order, absent_refusal, stops_hearing, frame_at, stops_beacon}
 use Rattle.yard.specs.Singles.{post_orders, post_orders_air, post_hears, post_hears_air, post_beacons, post_beacons_air}
@@ -78,7 +78,7 @@ absent_refused false true false e z = omega (arith, z)
 absent_refused false false v e z = not_both false e refl
 
 absent_hears : (a : List ℕ) (p : Post) (n k : ℕ) → not_on_air n k ≡ true
-    → (post_hears a p n k ≡ record { answer = hearings.TheVariants.Refused (absent_refusal a p.lane p.posts n k); post = p; frames = n })
+    → (post_hears a p n k ≡ record { answer = hearings.Refused (absent_refusal a p.lane p.posts n k); post = p; frames = n })
     × (post_hears_air a p n k ≡ a)
 unfolding post_hears post_hears_air
 absent_hears a p n k e =

@@ -5,7 +5,7 @@ use mathlib.Core.List.{List, [], append-nil}
 use mathlib.Core.Logic.{◌⊎◌, inl, inr, ◌≢◌}
 use native.Mathlib.Omega.{arith}
 use lib.ListN.{length}
-use Rattle.lines.specs.declared.Line.{Line}
+use Rattle.lines.specs.Line.{Line}
 use Rattle.lines.specs.Lines.{lines_from}
 use Rattle.state.specs.Yards.{post_at, beacons_at, yard_refusal}
 use Rattle.yard.specs.Worlds.{World}

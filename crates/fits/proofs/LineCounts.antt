@@ -8,9 +8,8 @@ use native.Mathlib.Omega.{arith}
 use lib.Dec.{eqb}
 use lib.ListN.{length}
 use Rattle.text.specs.Decimal.{decimal}
-use Rattle.lines.specs.declared.Line.{Line}
-use Rattle.lines.specs.declared.Line.TheVariants.{Yard, Order, Hear, Beacon, Roll, Refused}
-use Rattle.steps.specs.declared.OrderAnswer as orders
+use Rattle.lines.specs.Line.{Line, Yard, Order, Hear, Beacon, Roll, Refused}
+use Rattle.steps.specs.OrderAnswer as orders
 use Rattle.steps.specs.Answers.{order_number}
 use Rattle.state.specs.Yards.{beacons_at}
 use Rattle.yard.specs.Singles.{yard_orders}
@@ -65,8 +64,8 @@ OrderSent number word o = ((number ≡ 0) × (length o ≡ 1) × (items_most o �
 -- by what the step answers
 order_sent_lem : (lane word : ℕ) (a : orders.OrderAnswer) → OrderSent (order_number a) word (order_sent_by lane word a ++ [])
 unfolding order_sent_by OrderSent items_most
-order_sent_lem lane word (orders.TheVariants.Sent serial stamp count) = inl (refl, refl, omega arith)
-order_sent_lem lane word (orders.TheVariants.Refused number) = inr (refl, refl)
+order_sent_lem lane word (orders.Sent serial stamp count) = inl (refl, refl, omega arith)
+order_sent_lem lane word (orders.Refused number) = inr (refl, refl)
 
 module _ (w : World) (n : ℕ) (low : n + 1 < 10000) (small : (s : Step) → answer_number (answer w s) < 100) where
   -- what the line of a step prints

@@ -11,8 +11,7 @@ use Rattle.text.specs.Decimal.{given}
 use Rattle.laws.specs.Lists.{Begins}
 use Rattle.laws.proofs.ListLaws.{begins_itself}
 use Rattle.laws.proofs.TestLaws.{same_or_not}
-use Rattle.lines.specs.declared.Line.{Line}
-use Rattle.lines.specs.declared.Line.TheVariants.{Yard}
+use Rattle.lines.specs.Line.{Line, Yard}
 use Rattle.lines.specs.Lines.{line_at, judged}
 use Rattle.state.specs.Yards.{yard_refusal}
 use Rattle.yard.specs.Worlds.{World}

@@ -4,8 +4,7 @@ use mathlib.Core.Path.{◌≡◌, refl, sym, ap, ap₂, ◌∙◌}
 use mathlib.Core.List.{List, [], ◌∷◌, ◌++◌}
 use native.Mathlib.Omega.{arith}
 use lib.ListN.{length}
-use Rattle.lines.specs.declared.Line.{Line}
-use Rattle.lines.specs.declared.Line.TheVariants.{Yard, Order, Hear, Beacon, Roll, Refused}
+use Rattle.lines.specs.Line.{Line, Yard, Order, Hear, Beacon, Roll, Refused}
 use Rattle.lines.specs.Lines.{line_at, number_of}
 use Rattle.roll.specs.Runs.{run}
 use Rattle.state.specs.Yards.{yard_refusal}

@@ -10,7 +10,7 @@ use lib.ListN.{length}
 use borrow.Author.Tests.{leb-true, eq-eqb}
 use Rattle.air.specs.Air.{bad_air}
 use Rattle.cells.specs.Sets.{has_lane}
-use Rattle.lines.specs.declared.Line.{Line}
+use Rattle.lines.specs.Line.{Line}
 use Rattle.state.specs.Yards.{post_at, beacons_at, spent, yard_refusal}
 use Rattle.yard.specs.Singles.{frame_at}
 use Rattle.yard.specs.Worlds.{World, order, hear, beacon}

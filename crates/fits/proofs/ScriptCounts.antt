@@ -5,8 +5,7 @@ use mathlib.Core.List.{List, [], ◌∷◌, ◌++◌}
 use mathlib.Core.Logic.{◌⊎◌, inl, inr, ◌≢◌}
 use native.Mathlib.Omega.{arith}
 use lib.ListN.{length, length-append}
-use Rattle.lines.specs.declared.Line.{Line}
-use Rattle.lines.specs.declared.Line.TheVariants.{Yard, Order, Hear, Beacon, Roll, Refused}
+use Rattle.lines.specs.Line.{Line, Yard, Order, Hear, Beacon, Roll, Refused}
 use Rattle.lines.specs.Lines.{line_at, next_of, lines_from}
 use Rattle.state.specs.Yards.{beacons_at}
 use Rattle.yard.specs.Worlds.{World, order, hear, beacon}

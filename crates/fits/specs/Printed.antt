@@ -1,7 +1,6 @@
 -- The logs that a script prints are those of a run that demand 3 speaks of: the statement. Assumes nothing.
 use Rattle.std.specs.Prelude.{ℕ, ◌≤◌, ◌≡◌, List, [], ◌∷◌, ◌++◌, length}
-use Rattle.lines.specs.declared.Line.{Line}
-use Rattle.lines.specs.declared.Line.TheVariants.{Yard}
+use Rattle.lines.specs.Line.{Line, Yard}
 use Rattle.lines.specs.Lines.{line_at, judged}
 use Rattle.written.specs.Written.{Right}
 use Rattle.written.specs.WholeScripts.{text_of, RightSteps}

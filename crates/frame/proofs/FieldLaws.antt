@@ -2,21 +2,18 @@
 use mathlib.Core.Path.{◌≡◌, refl, sym, subst, ap, ◌∙◌}
 use mathlib.Core.Bool.{true, false, not}
 use mathlib.Core.List.{List}
-use Prim.Native.Nat.{ℕ, zero, suc, ◌+◌, ◌*◌, ◌<◌}
+use Prim.Native.Nat.{ℕ, zero, suc, ◌+◌, ◌*◌}
 use native.Mathlib.Numerals.{add-one}
 use borrow.Author.Tests.{eq-eqb, ne_eqb}
-use lib.Dec.{T, ltb, lit<}
 use lib.ListN.{length, set}
-use Rattle.frame.specs.Layout.{entry_of, frame_of}
+use Rattle.frame.specs.Layout.{entry_of}
 use Rattle.frame.specs.Refusals.{read_refusal}
 use Rattle.frame.specs.ReadWrite.{write_refusal, read_of, written}
 use Rattle.frame.specs.Fields.{fields_of, frame_from, bad_count, fields_read_refusal, fields_read, fields_write_refusal, fields_written}
 use Rattle.frame.specs.declared.Frame.{Frame}
+use Rattle.frame.specs.FrameRead.{FrameRead}
+use Rattle.frame.proofs.Laws.{read_number}
 use Rattle.frame.proofs.RoundTrip.{tabulate, tabulated}
-
--- an index below 22 is within 22 fields
-pub in_22 : {n : ℕ} (i : ℕ) → n ≡ 22 → T (ltb i 22) → i < n
-in_22 i e t = rw e (lit< t)
 
 -- the fields once those before the entries are put
 abbrev pub start_fields_put : Frame → List ℕ → List ℕ
@@ -63,14 +60,13 @@ fields_read_refused bytes fields n l e h =
     let j = judged_as_read bytes fields l ∙ sym e in
     (sym j, rw (j, ne_eqb n 0 h))
 
-pub fields_read_accepted : (bytes fields exit : List ℕ) (f : Frame) (n : ℕ) → length fields ≡ 22 → n ≡ read_refusal bytes → n ≡ 0
-    → f ≡ frame_of bytes → exit ≡ fields_of f
+pub fields_read_accepted : (bytes fields exit : List ℕ) (f : Frame) → length fields ≡ 22 → ◌≡◌ {A = FrameRead} (record { refusal = 0; frame = f }) (read_of bytes)
+    → exit ≡ fields_of f
     → (0 ≡ fields_read_refusal bytes fields) × (exit ≡ fields_read bytes fields)
-unfolding fields_read read_of
-fields_read_accepted bytes fields exit f n l e z p q =
-    let read : read_refusal bytes ≡ 0 = sym e ∙ z in
-    let j = judged_as_read bytes fields l ∙ read in
-    (sym j, rw (j, read, ← p) q)
+unfolding fields_read
+fields_read_accepted bytes fields exit f l v q =
+    let j = judged_as_read bytes fields l ∙ sym (read_number bytes _ v) in
+    (sym j, rw (j, ← ap (λ (r : FrameRead). r.frame) v) q)
 
 -- the ways through `drift_frame_write`
 pub fields_write_short : (fields buffer : List ℕ) → (length fields ≡ 22 → ⊥)

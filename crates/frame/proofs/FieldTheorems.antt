@@ -1,6 +1,6 @@
 -- Fields and frames both ways, and so fields and bytes. Assumes nothing.
 -- `ByteFields f`, `AreBytes l` and `AreNumbers l` are what every value of the types `Frame`, `&[u8]` and `&[u16]` has.
-use mathlib.Core.Path.{◌≡◌, refl, sym, ap, ◌∙◌}
+use mathlib.Core.Path.{◌≡◌, refl, sym, ◌∙◌}
 use mathlib.Core.Bool.{Bool, true, false, cond}
 use mathlib.Core.List.{List, [], ◌∷◌, map}
 use Prim.Native.Nat.{ℕ, zero, suc, ◌+◌, ◌*◌, ◌<◌}
@@ -18,9 +18,9 @@ use Rattle.frame.specs.declared.Entry.{Entry}
 use Rattle.frame.specs.declared.Frame.{Frame}
 use Rattle.frame.proofs.Accepted.{below_255}
 use Rattle.frame.proofs.FieldLaws.{fields_read_accepted, fields_write_judged}
-use Rattle.frame.proofs.Laws.{passed, writable, written_good}
-use Rattle.frame.proofs.RoundTrip.{tabulate, tabulated, frame_bytes}
-use Rattle.frame.proofs.Theorems.{never_refused, writes_back}
+use Rattle.frame.proofs.Laws.{passed, writable}
+use Rattle.frame.proofs.RoundTrip.{tabulate, tabulated}
+use Rattle.frame.proofs.Theorems.{reads_back, writes_back}
 
 -- a byte counts as itself, and what counts as less than 255 is a byte
 as_byte : (n : ℕ) → n < 256 → cond (ltb n 256) n 255 ≡ n
@@ -113,7 +113,5 @@ fields_read_back fields buffer other h l e =
     let wrote = passed (bad_count fields) 6 (write_refusal buffer f) (omega arith) e in
     let count : length fields ≡ 22 = eqb-true (length fields) 22 (not-false _ wrote.0) in
     let same = accepted_fields fields count (writable buffer f wrote.1).1 in
-    let read = sym (never_refused buffer f fits wrote.1) in
-    let frame = ap frame_of (written_good buffer f wrote.1) ∙ frame_bytes f fits in
-    let j = fields_read_accepted (written buffer f) other fields f 0 l read refl (sym frame) (sym same) in
+    let j = fields_read_accepted (written buffer f) other fields f l (sym (reads_back buffer f fits wrote.1)) (sym same) in
     rw wrote.0 (sym j.0, sym j.1)

@@ -1,85 +1,30 @@
 -- Laws that the proofs of functions cite. Assumes nothing.
-use mathlib.Core.Path.{◌≡◌, refl, sym, ◌∙◌, ap₂}
-use mathlib.Core.Bool.{Bool, true, false, not, cond, ◌&&◌, ◌||◌}
+use mathlib.Core.Path.{◌≡◌, refl, sym, ◌∙◌, ap, ap₂}
+use mathlib.Core.Bool.{Bool, true, false, cond, ◌||◌}
 use mathlib.Core.List.{List}
-use Prim.Native.Nat.{ℕ, zero, suc, ◌+◌, ◌*◌, ◌%◌, ◌^◌, ◌<◌}
+use Prim.Native.Nat.{ℕ, ◌+◌, ◌*◌, ◌<◌}
 use native.Mathlib.Numerals.{add-one}
 use native.Mathlib.Omega.{arith}
-use borrow.Author.Tests.{lt-ltb, eq-eqb, ne_eqb, eqb-true, eqb-false, not-false}
+use borrow.Author.Tests.{eq-eqb, ne_eqb, eqb-true, not-false}
 use lib.ListN.{length}
-use lib.Dec.{T, ltb, eqb, lit<}
-use mir.Syntax.{w8, w64}
-use mir.Val.{Fits}
+use lib.Dec.{eqb}
 use Rattle.frame.specs.Lanes.{any_below}
 use Rattle.frame.specs.Layout.{byte_at, pair_at, entry_at, frame_of, bytes_of}
 use Rattle.frame.specs.Parts.{start_of, start_refusal}
 use Rattle.frame.specs.Refusals.{bad_length, bad_kind, bad_beacon, bad_order, bad_sender, bad_entry, bad_entries, frame_refusal, read_refusal}
-use Rattle.frame.specs.ReadWrite.{write_refusal, refused_read, read_of, written}
+use Rattle.frame.specs.ReadWrite.{write_refusal, read_of, written}
 use Rattle.frame.specs.declared.Entry.{Entry}
 use Rattle.frame.specs.declared.Frame.{Frame}
-use Rattle.frame.specs.declared.FrameRead.{FrameRead}
-
-or-true : (b : Bool) → (b || true) ≡ true
-or-true true = refl
-or-true false = refl
-
-or-false : (b : Bool) → (b || false) ≡ b
-or-false true = refl
-or-false false = refl
-
--- a test that holds at some number below n; one number more is tested
-pub some_below : (test : ℕ → Bool) (i n : ℕ) → i < n → test i ≡ true → true ≡ any_below test n
-unfolding any_below
-some_below test i zero h t = absurd (omega arith)
-some_below test i (suc n) h t = last_or_before (eqb i n) refl (λ (k : i < n). some_below test i n k t)
-  where
-    last_or_before : (b : Bool) → eqb i n ≡ b → (i < n → true ≡ any_below test n) → true ≡ (any_below test n || test n)
-    last_or_before true e before = rw (← eqb-true i n e, t) (sym (or-true (any_below test i)))
-    last_or_before false e before = let other : i ≡ n → ⊥ = eqb-false i n e in rw (← before (omega arith))
+use Rattle.frame.specs.FrameRead.{FrameRead, refused_read}
 
 pub any_more : (test : ℕ → Bool) (n : ℕ) (b x : Bool) → b ≡ any_below test n → x ≡ test n → (b || x) ≡ any_below test (n + 1)
 unfolding any_below
 any_more test n b x p q = rw add-one (ap₂ ◌||◌ p q)
 
-pub none_more : (test : ℕ → Bool) (n : ℕ) (x : Bool) → any_below test n ≡ false → x ≡ test n → x ≡ false → any_below test (n + 1) ≡ false
-unfolding any_below
-none_more test n x p q e = rw (add-one n, p, ← q) e
-
--- refusal 11 as a bound on the serial: 16, or 0 where the stamp is 0
-pub no_stamp : (serial stamp most : ℕ) → stamp ≡ 0 → most ≡ 0 → ltb most serial ≡ (ltb 16 serial || (eqb stamp 0 && not (eqb serial 0)))
-no_stamp zero stamp most e z = rw (e, z)
-no_stamp (suc serial) stamp most e z = rw (e, z, lt-ltb 0 (suc serial) (omega arith), ne_eqb (suc serial) 0 (λ k. omega arith)) (sym (or-true (ltb 16 (suc serial))))
-
-pub some_stamp : (serial stamp most : ℕ) → (stamp ≡ 0 → ⊥) → most ≡ 16 → ltb most serial ≡ (ltb 16 serial || (eqb stamp 0 && not (eqb serial 0)))
-some_stamp serial stamp most h z = rw (ne_eqb stamp 0 h, z) (sym (or-false (ltb 16 serial)))
-
 -- refusal 11 where the entries lie in the bytes
 pub entries_in_lem : (bytes : List ℕ) → any_below (λ (i : ℕ). bad_entry (entry_at bytes (8 + 3 * i))) 8 ≡ bad_entries (frame_of bytes)
 unfolding any_below bad_entries frame_of
 entries_in_lem bytes = refl
-
--- the low byte of a number is a byte
-pub low_byte : (n : ℕ) → Fits w8 (n % 256)
-low_byte n = record { fits = omega arith }
-
--- an index below 32 is within 32 bytes
-pub in_32 : {n : ℕ} (i : ℕ) → n ≡ 32 → T (ltb i 32) → i < n
-in_32 i e t = rw e (lit< t)
-
--- an index is within bytes that go on for two more
-pub two_more : (i n : ℕ) → i + 2 < n → i < n
-two_more i n h = omega arith
-
-pub one_and_one_more : (i n : ℕ) → i + 2 < n → i + 1 + 1 < n
-one_and_one_more i n h = omega arith
-
-pub next_fits : (i n : ℕ) → i + 2 < n → n < 2 ^ 64 → Fits w64 (i + 1)
-next_fits i n h k = record { fits = omega arith }
-
--- entries of one serial are equal if their stamps are
-pub same_stamp : {serial m n : ℕ} → m ≡ n
-    → ◌≡◌ {A = Entry} (record { serial = record { 0 = serial }; stamp = record { 0 = m } }) (record { serial = record { 0 = serial }; stamp = record { 0 = n } })
-same_stamp e = rw e
 
 -- frames are equal if their stamps, words and entries are, beside fields that are the same
 pub same_frame : {kind sender lane serial m n v w : ℕ} {es fs : List Entry} → m ≡ n → v ≡ w → es ≡ fs
@@ -87,13 +32,6 @@ pub same_frame : {kind sender lane serial m n v w : ℕ} {es fs : List Entry} �
     (record { kind = kind; sender = sender; lane = lane; serial = record { 0 = serial }; stamp = record { 0 = m }; word = v; entries = es })
     (record { kind = kind; sender = sender; lane = lane; serial = record { 0 = serial }; stamp = record { 0 = n }; word = w; entries = fs })
 same_frame p q e = rw (p, q, e)
-
--- a chain of refusals ends at a test b that holds, and goes on past one that does not
-pub stops : {t b : Bool} {n : ℕ} (r : ℕ) → b ≡ t → b ≡ true → n ≡ cond t n r
-stops r e h = cc
-
-pub passes : {t b : Bool} {r x : ℕ} (n : ℕ) → b ≡ t → b ≡ false → x ≡ r → x ≡ cond t n r
-passes n e h q = cc
 
 -- refusal 6, for bytes to read and for a buffer
 pub not_32 : (l : List ℕ) (r : ℕ) → (length l ≡ 32 → ⊥) → cond (bad_length l) 6 r ≡ 6
@@ -121,7 +59,7 @@ pub writable : (buffer : List ℕ) (f : Frame) → write_refusal buffer f ≡ 0 
 unfolding write_refusal
 writable buffer f h = accepted buffer (frame_refusal f) h
 
--- the ways through `Frame::refusal` and `drift_frame_check`
+-- the ways through `Frame::check` and `check_bytes`
 start_first : (a b c d : Bool) (r : ℕ)
     → cond a 7 (cond b 8 (cond c 9 (cond d 10 r)))
     ≡ cond (eqb (cond a 7 (cond b 8 (cond c 9 (cond d 10 0)))) 0) r (cond a 7 (cond b 8 (cond c 9 (cond d 10 0))))
@@ -165,6 +103,11 @@ pub read_accepted : (bytes : List ℕ) (f : Frame) (n : ℕ) → n ≡ read_refu
     → ◌≡◌ {A = FrameRead} (record { refusal = 0; frame = f }) (read_of bytes)
 unfolding read_of
 read_accepted bytes f n q z p = rw (← q, z, p)
+
+-- a reader's number is that of its bytes
+pub read_number : (bytes : List ℕ) (r : FrameRead) → r ≡ read_of bytes → r.refusal ≡ read_refusal bytes
+unfolding read_of
+read_number bytes r e = ap (λ (s : FrameRead). s.refusal) e
 
 -- a buffer of 32 bytes is refused as the frame is
 pub write_judges : (buffer : List ℕ) (f : Frame) → length buffer ≡ 32 → write_refusal buffer f ≡ frame_refusal f

@@ -12,7 +12,7 @@ use Rattle.frame.specs.Types.{Typed, AreBytes}
 use Rattle.frame.specs.Refusals.{bad_beacon, frame_refusal, read_refusal}
 use Rattle.frame.specs.ReadWrite.{write_refusal, read_of, written}
 use Rattle.frame.specs.declared.Frame.{Frame}
-use Rattle.frame.specs.declared.FrameRead.{FrameRead}
+use Rattle.frame.specs.FrameRead.{FrameRead}
 use Rattle.frame.proofs.Beacon.{pair_nonzero, any_of_six}
 use Rattle.frame.proofs.Laws.{is_32, readable, writable, written_good}
 use Rattle.frame.proofs.RoundTrip.{frame_bytes, bytes_frame}

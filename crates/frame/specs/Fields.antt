@@ -21,9 +21,13 @@ fields_of f =
 abbrev pub field_at : List ℕ → ℕ → ℕ
 field_at fields i = get_or fields i 0
 
--- field i as one byte: a number over 255 counts as 255, which every refusal of such a field meets
+-- a number as one byte: one over 255 counts as 255, which every refusal of such a field meets
+abbrev pub byte_of : ℕ → ℕ
+byte_of number = cond (ltb number 256) number 255
+
+-- field i as one byte
 abbrev pub byte_field_at : List ℕ → ℕ → ℕ
-byte_field_at fields i = cond (ltb (field_at fields i) 256) (field_at fields i) 255
+byte_field_at fields i = byte_of (field_at fields i)
 
 -- the entry in fields i and i + 1: serial, stamp
 abbrev pub entry_from : List ℕ → ℕ → Entry

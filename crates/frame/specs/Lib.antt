@@ -1,3 +1,4 @@
+pub mod FrameRead
 pub mod Lanes
 pub mod Layout
 pub mod Types

@@ -3,11 +3,7 @@ use Rattle.std.specs.Prelude.{ℕ, List, cond, eqb}
 use Rattle.frame.specs.Layout.{frame_of, bytes_of, no_frame}
 use Rattle.frame.specs.Refusals.{bad_length, frame_refusal, read_refusal}
 use Rattle.frame.specs.declared.Frame.{Frame}
-use Rattle.frame.specs.declared.FrameRead.{FrameRead}
-
--- "A refusal yields only its number"
-abbrev pub refused_read : ℕ → FrameRead
-refused_read number = record { refusal = number; frame = no_frame }
+use Rattle.frame.specs.FrameRead.{FrameRead}
 
 -- the refusal and no frame, or 0 and the frame
 unfoldable pub read_of : List ℕ → FrameRead

@@ -6,15 +6,19 @@ mod fields;
 mod layout;
 mod refusals;
 
-ghost use Rattle.std.specs.Prelude.{◌≡◌};
+ghost use Rattle.std.specs.Prelude.{◌≡◌, IfOk, IsOk};
+ghost use Rattle.refusal.specs.Numbers.{refused_with};
+ghost use Rattle.frame.specs.FrameRead.{read_answer};
 ghost use Rattle.frame.specs.Layout.{bytes_of, no_frame};
 ghost use Rattle.frame.specs.Refusals.{frame_refusal, read_refusal};
-ghost use Rattle.frame.specs.ReadWrite.{write_refusal, refused_read, read_of, written};
+ghost use Rattle.frame.specs.ReadWrite.{write_refusal, read_of, written};
 ghost use Rattle.frame.specs.Fields.{fields_read_refusal, fields_read, fields_write_refusal, fields_written};
+
+use refusal::Refusal;
 
 // A count of one lane's own orders (a per-source sequence number), 1 to 16; entries also have 0.
 #[repr(C)]
-#[derive(Clone, Copy)]
+#[derive(Clone, Copy, Debug, PartialEq, Eq, PartialOrd, Ord)]
 pub struct Serial(pub u8);
 
 impl Serial {
@@ -25,18 +29,18 @@ impl Serial {
 
 // A reading of a source's logical clock (a Lamport timestamp); 0 means none.
 #[repr(C)]
-#[derive(Clone, Copy)]
+#[derive(Clone, Copy, Debug, PartialEq, Eq, PartialOrd, Ord)]
 pub struct Stamp(pub u16);
 
 // A lane's newest stamp and the serial that it stands under, as a broadcast carries them; all zero is none.
-#[derive(Clone, Copy)]
+#[derive(Clone, Copy, Debug, PartialEq, Eq)]
 pub struct Entry {
     pub serial: Serial,
     pub stamp: Stamp,
 }
 
 // A broadcast: an order frame (a flooded message) or a beacon (entries alone), with an entry for each lane.
-#[derive(Clone, Copy)]
+#[derive(Clone, Copy, Debug, PartialEq, Eq)]
 pub struct Frame {
     pub kind: u8,
     pub sender: u8,
@@ -45,13 +49,6 @@ pub struct Frame {
     pub stamp: Stamp,
     pub word: u16,
     pub entries: [Entry; Frame::LANES],
-}
-
-// What reading gives: refusal 0 and the frame, or the refusal's number and a frame of zeros.
-#[derive(Clone, Copy)]
-pub struct FrameRead {
-    pub refusal: u8,
-    pub frame: Frame,
 }
 
 impl Frame {
@@ -87,57 +84,44 @@ impl Frame {
     }
 
     // The frame that these bytes lay out, or the refusal 6 to 11.
-    pub fn read(bytes: &[u8]) -> FrameRead
-        ensures value { result ≡ read_of bytes.now }
-        ensures writes_back { result.refusal ≡ 0 → bytes_of result.frame ≡ bytes.now }
+    pub fn read(bytes: &[u8]) -> Result<Frame, Refusal>
+        ensures value { read_answer result ≡ read_of bytes.now }
+        ensures writes_back { IfOk result (λ f. bytes_of f ≡ bytes.now) }
     {
-        let number = drift_frame_check(bytes);
-        if number != 0 {
-            return refused(number);
-        }
-        let frame = layout::frame_of(bytes);
-        FrameRead {
-            refusal: 0,
-            frame: frame,
-        }
+        let bytes = checked(bytes)?;
+        Ok(layout::frame_of(bytes))
     }
 
-    // Puts the frame's bytes into a buffer of 32: 0, or the refusal 6 to 11 with the buffer as it was.
-    pub fn write(self, buffer: &mut [u8]) -> u8
-        ensures number { result ≡ write_refusal buffer.old self }
+    // Puts the frame's bytes into a buffer of 32; a refusal, 6 to 11, leaves the buffer as it was.
+    pub fn write(self, buffer: &mut [u8]) -> Result<(), Refusal>
+        ensures number { refused_with result ≡ write_refusal buffer.old self }
         ensures bytes { buffer.new ≡ written buffer.old self }
-        ensures reads_back { result ≡ 0 → read_of buffer.new ≡ record { refusal = 0; frame = self } }
+        ensures reads_back { IsOk result → read_of buffer.new ≡ record { refusal = 0; frame = self } }
     {
-        if buffer.len() != Frame::LENGTH {
-            return 6;
-        }
-        let refusal = self.refusal();
-        if refusal != 0 {
-            return refusal;
-        }
+        let Some(buffer) = buffer.as_mut_array() else {
+            return Err(Refusal::BadLength);
+        };
+        self.check()?;
         layout::put(self, buffer);
-        0
+        Ok(())
     }
 
-    // The lowest of 7 to 11 that the frame meets, or 0.
-    pub fn refusal(self) -> u8
-        ensures { result ≡ frame_refusal self }
+    // By the lowest of 7 to 11 that the frame meets.
+    pub fn check(self) -> Result<(), Refusal>
+        ensures { refused_with result ≡ frame_refusal self }
     {
-        let number = refusals::of_start(
+        refusals::check_start(
             self.kind,
             self.sender,
             self.lane,
             self.serial,
             self.stamp,
             self.word,
-        );
-        if number != 0 {
-            return number;
-        }
+        )?;
         if refusals::bad_entries(self) {
-            return 11;
+            return Err(Refusal::BadEntry);
         }
-        0
+        Ok(())
     }
 }
 
@@ -145,20 +129,7 @@ impl Frame {
 pub fn drift_frame_check(bytes: &[u8]) -> u8
     ensures { result ≡ read_refusal bytes.now }
 {
-    if bytes.len() != Frame::LENGTH {
-        return 6;
-    }
-    let kind = bytes[0];
-    let stamp = Stamp(layout::pair_at(bytes, 4));
-    let word = layout::pair_at(bytes, 6);
-    let start = refusals::of_start(kind, bytes[1], bytes[2], Serial(bytes[3]), stamp, word);
-    if start != 0 {
-        return start;
-    }
-    if refusals::bad_entries_in(bytes) {
-        return 11;
-    }
-    0
+    refusal::number_of(checked(bytes))
 }
 
 // Puts a received frame's 22 fields into the lent numbers: 0, or the refusal 6 to 11 with the numbers as they were.
@@ -166,16 +137,16 @@ pub fn drift_frame_read(bytes: &[u8], fields: &mut [u16]) -> u8
     ensures number { result ≡ fields_read_refusal bytes.now fields.old }
     ensures fields { fields.new ≡ fields_read bytes.now fields.old }
 {
-    if fields.len() != Frame::FIELDS {
-        return 6;
+    let Some(fields) = fields.as_mut_array() else {
+        return u8::from(Refusal::BadLength);
+    };
+    match Frame::read(bytes) {
+        Ok(frame) => {
+            fields::put(frame, fields);
+            0
+        }
+        Err(refusal) => u8::from(refusal),
     }
-    let answer = drift_frame_check(bytes);
-    if answer != 0 {
-        return answer;
-    }
-    let frame = layout::frame_of(bytes);
-    fields::put(frame, fields);
-    0
 }
 
 // Puts the bytes of the frame that 22 fields make into a buffer of 32: 0, or the refusal 6 to 11 with the buffer as it was.
@@ -183,19 +154,25 @@ pub fn drift_frame_write(fields: &[u16], buffer: &mut [u8]) -> u8
     ensures number { result ≡ fields_write_refusal fields.now buffer.old }
     ensures bytes { buffer.new ≡ fields_written fields.now buffer.old }
 {
-    if fields.len() != Frame::FIELDS {
-        return 6;
-    }
-    let frame = fields::frame_from(fields);
-    frame.write(buffer)
+    let Some(fields) = fields.as_array() else {
+        return u8::from(Refusal::BadLength);
+    };
+    refusal::number_of(fields::frame_from(fields).write(buffer))
 }
 
-fn refused(number: u8) -> FrameRead
-    ensures { result ≡ refused_read number }
+// The bytes of a frame, judged where they lie: refused by the lowest of 6 to 11 that they meet.
+fn checked(bytes: &[u8]) -> Result<&[u8; Frame::LENGTH], Refusal>
+    ensures number { refused_with result ≡ read_refusal bytes.now }
+    ensures same { IfOk result (λ b. b.now ≡ bytes.now) }
 {
-    let frame = Frame::none();
-    FrameRead {
-        refusal: number,
-        frame: frame,
+    let Some(bytes) = bytes.as_array() else {
+        return Err(Refusal::BadLength);
+    };
+    let stamp = Stamp(layout::pair_at(bytes, 4));
+    let word = layout::pair_at(bytes, 6);
+    refusals::check_start(bytes[0], bytes[1], bytes[2], Serial(bytes[3]), stamp, word)?;
+    if refusals::bad_entries_in(bytes) {
+        return Err(Refusal::BadEntry);
     }
+    Ok(bytes)
 }

@@ -1,21 +1,18 @@
 -- Laws of the judgement's loops. Assumes nothing.
 use mathlib.Core.Path.{◌≡◌, refl, sym, ap, ap₂, ◌∙◌}
 use mathlib.Core.Bool.{Bool, true, false, cond, not, ◌&&◌, ◌||◌}
-use mathlib.Core.List.{List, ◌++◌}
+use mathlib.Core.List.{List}
 use Prim.Native.Nat.{ℕ, zero, suc, ◌+◌, ◌-◌, ◌*◌, ◌/◌, ◌%◌, ◌<◌, ◌≤◌, min}
 use native.Mathlib.Numerals.{add-one}
 use native.Mathlib.Omega.{arith}
 use native.Mathlib.Decide.{dec_lt}
 use borrow.Author.Tests.{lt-ltb, le-ltb, le-leb, lt-leb}
 use lib.Dec.{ltb, eqb}
-use lib.ListN.{length, get_or, set, take, drop, length-take, length-drop}
+use lib.ListN.{length, get_or, set}
 use lib.Seq.{set_out}
 use Rattle.frame.specs.Lanes.{any_below}
+use Rattle.frame.proofs.Lanes.{any_same}
 use Rattle.frame.proofs.Laws.{any_more}
-use Rattle.cells.specs.Copies.{copied}
-use Rattle.cells.proofs.Copies.{copied_whole}
-use Rattle.row.specs.Rows.{post_in, known_in, past_in}
-use Rattle.row.proofs.LentRows.{known_lent}
 use Rattle.deliver.specs.Known.{advanced, known_below}
 use Rattle.deliver.specs.Loops.{marks_below}
 use Rattle.deliver.proofs.Gathering.{marks_log}
@@ -33,12 +30,6 @@ or-true false b = refl
 or-false : (a : Bool) → (a || false) ≡ a
 or-false true = refl
 or-false false = refl
-
--- tests that agree below n
-pub any_same : (f g : ℕ → Bool) (n : ℕ) → ((k : ℕ) → k < n → f k ≡ g k) → any_below f n ≡ any_below g n
-unfolding any_below
-any_same f g zero h = refl
-any_same f g (suc n) h = ap₂ ◌||◌ (any_same f g n (λ k q. h k (omega arith))) (h n (omega arith))
 
 -- a row of tests in two parts
 pub any_join : (f : ℕ → Bool) (a b : ℕ) → any_below f (a + b) ≡ (any_below f a || any_below (λ (k : ℕ). f (a + k)) b)
@@ -109,26 +100,16 @@ mark_says log i k mark t e = go (dec_lt i 128)
         let o : ltb 127 i ≡ true = lt-ltb 127 i (omega arith) in
         rw o (or-true (not (eqb mark 0)) t ∙ sym (or-true (any_below (λ (j : ℕ). eqb (get_or log j 0) i) k) t))
 
--- what `bad_place` promises of one logged order, and its two ways
-abbrev PlaceIs : List ℕ → List ℕ → List ℕ → ℕ → Bool → List ℕ → List ℕ → Type 0
-PlaceIs last marks known place r marks' known' = (r ≡ bad_place_in last marks place) × ((marks' ≡ set marks place 1) × (known' ≡ advanced known place))
-
-pub no_place : (last marks known : List ℕ) (place : ℕ) → length marks ≡ 128 → length known ≡ 8 → 127 < place → PlaceIs last marks known place true marks known
+-- what is no order's place makes nothing known
+pub advanced_out : (known : List ℕ) (place : ℕ) → length known ≡ 8 → 127 < place → known ≡ advanced known place
 unfolding advanced
-no_place last marks known place lm lk h =
-    let o : ltb 127 place ≡ true = lt-ltb 127 place h in
-    let k : set known (place / 16) (place % 16 + 1) ≡ known = set_out known (place / 16) (place % 16 + 1) (omega arith) in (
-      rw o (sym (or-true (not (eqb (get_or marks place 0) 0)) (not (taken_in last place)))),
-      (sym (set_out marks place 1 (omega arith)), rw k (go (eqb (get_or known (place / 16) 0) (place % 16)))),
-    )
+advanced_out known place long h =
+    let k : set known (place / 16) (place % 16 + 1) ≡ known = set_out known (place / 16) (place % 16 + 1) (omega arith) in
+    rw k (go (eqb (get_or known (place / 16) 0) (place % 16)))
   where
     go : (b : Bool) → known ≡ cond b known known
     go true = refl
     go false = refl
-
-pub a_place : (last marks known known' : List ℕ) (place : ℕ) → place ≤ 127 → known' ≡ advanced known place
-    → PlaceIs last marks known place (not (eqb (get_or marks place 0) 0) || not (ltb (place % 16) (get_or last (place / 16) 0))) (set marks place 1) known'
-a_place last marks known known' place h e = let o : ltb 127 place ≡ false = le-ltb 127 place h in (rw o, (refl, e))
 
 -- one order of the log more
 pub used_more : (last log : List ℕ) (k : ℕ) (bad x : Bool) (marks : List ℕ) → bad ≡ any_below (bad_used_in last log) k → marks ≡ marks_below log k
@@ -167,14 +148,3 @@ log_parts last log logged n x y e p q =
 
     unused : (k : ℕ) → k < 128 - n → bad_logged_in last log logged (n + k) ≡ bad_unused_in log (n + k)
     unused k h = rw (le-ltb (n + k) logged (omega arith), le-leb logged (n + k) (omega arith))
-
--- ---- what a row knows
-
--- it was told by a copy
-pub learned : (l m known t : List ℕ) → 543 ≤ length l → length known ≡ 8 → t ≡ copied known (take (22 - 14) (drop 14 l))
-    → m ≡ take 14 l ++ (t ++ drop (22 - 14) (drop 14 l))
-    → (post_in m ≡ post_in l) × ((known_in m ≡ known) × (past_in m ≡ past_in l))
-learned l m known t h k et em =
-    let w : length (take (22 - 14) (drop 14 l)) ≡ length known = simp (length-take, length-drop) (omega arith) in
-    let e : t ≡ known = et ∙ copied_whole known (take (22 - 14) (drop 14 l)) w in
-    known_lent l m known h k (rw e at em)

@@ -1,35 +1,37 @@
 -- The ways through the judgement; what it makes known is so. Assumes nothing.
 use mathlib.Core.Path.{◌≡◌, refl, sym, ◌∙◌}
-use mathlib.Core.Bool.{Bool, true, false, not, ◌||◌}
+use mathlib.Core.Bool.{Bool, true, false, ◌||◌}
 use mathlib.Core.List.{List}
+use Rattle.std.proofs.Common.{Bor}
+use Rattle.std.specs.Prelude.{Result, Ok}
+use Rattle.std.specs.Result.{MatchResult}
+use Rattle.std.specs.Array.{IsWholeChunk}
+use Rattle.std.proofs.lemmas.Result.{MatchResult-at_ok}
+use Rattle.row.specs.declared.Numbers.{Numbers}
 use Prim.Native.Nat.{ℕ, ◌+◌, ◌-◌, ◌<◌, ◌≤◌, min}
 use native.Mathlib.Omega.{arith}
 use borrow.Author.Tests.{le-leb, lt-leb}
-use lib.Dec.{ltb, leb, eqb}
+use lib.Dec.{leb}
 use lib.ListN.{length, get_or, take, drop, replicate}
 use Rattle.frame.specs.Lanes.{any_below}
-use Rattle.cells.specs.Sets.{role_astray}
 use Rattle.post.specs.declared.Post.{Post}
-use Rattle.row.specs.Rows.{part, post_in, known_in, past_in}
+use Rattle.row.specs.Rows.{part, post_in, numbers_of, known_in, past_in}
 use Rattle.deliver.specs.Known.{Known, known_below}
 use Rattle.deliver.proofs.KnownLaws.{known_none, below_known}
 use Rattle.judge.specs.Judgement.{bad_orders, bad_log, bad_record}
-use Rattle.judge.specs.Parts.{bad_numbers, bad_order_in, bad_used_in, bad_unused_in}
+use Rattle.judge.specs.Parts.{bad_numbers, bad_numbers_in, bad_order_in, bad_used_in, bad_unused_in}
 use Rattle.judge.specs.OnRows.{row_refusal, known_by_log, judged_known}
 use Rattle.judge.proofs.Laws.{log_parts}
 
 -- ---- the numbers
 
-pub numbers_are : (l : List ℕ) (lane serial logged own posts sources dests : ℕ) (serials roles : Bool) → lane ≡ (post_in l).lane → serial ≡ (post_in l).serial.0
-    → logged ≡ (post_in l).logged → own ≡ get_or (part l 6 8) lane 0 → serials ≡ any_below (λ (i : ℕ). ltb 16 (get_or (take 8 (drop 6 l)) i 0)) 8
-    → posts ≡ (post_in l).posts → sources ≡ (post_in l).sources → dests ≡ (post_in l).dests → roles ≡ role_astray posts sources dests
-    → (ltb 7 lane || ltb 16 serial || ltb 128 logged || serials || roles || not (eqb serial own)) ≡ bad_numbers (post_in l)
+pub numbers_are : (l : List ℕ) → bad_numbers_in (numbers_of (post_in l)) (take 8 (drop 6 l)) ≡ bad_numbers (post_in l)
 unfolding post_in part
-numbers_are l lane serial logged own posts sources dests serials roles el es eg eo et ep eu ed er = rw (eo, er, et, ep, eu, ed, el, es, eg)
+numbers_are l = refl
 
 -- ---- all of it
 
--- what `refusal` promises
+-- what `judge` promises
 abbrev pub Judged : List ℕ → ℕ → List ℕ → Type 0
 Judged l r m = (r ≡ row_refusal l) × ((post_in m ≡ post_in l) × ((known_in m ≡ judged_known l) × (past_in m ≡ past_in l)))
 
@@ -49,12 +51,19 @@ pub record Tested (l : List ℕ) (n : ℕ) (a b v : Bool) : Type 0 where
   pub orders : b ≡ any_below (bad_order_in (take 8 (drop 6 l)) (take 128 (drop 158 l)) (take 128 (drop 286 l))) 128
   pub unused : v ≡ any_below (λ (k : ℕ). bad_unused_in (take 128 (drop 414 l)) (n + k)) (128 - n)
 
-pub tested : (l : List ℕ) (logged n : ℕ) (numbers orders unused : Bool) → 543 ≤ length l → logged ≡ (post_in l).logged → n ≡ min logged 128
-    → numbers ≡ bad_numbers (post_in l)
-    → orders ≡ any_below (bad_order_in (take 8 (drop 6 l)) (take 128 (drop 158 l)) (take 128 (drop 286 l))) 128
-    → unused ≡ any_below (λ (k : ℕ). bad_unused_in (take 128 (drop 414 l)) (n + k)) (128 - n)
-    → Tested l n numbers orders unused
-tested l logged n numbers orders unused h el en enu eo eu = record { whole = h; some = rw el at en; numbers = enu; orders = eo; unused = eu }
+pub tested : (l last stamps words log : List ℕ) (numbers : Numbers) (n : ℕ) (bad orders unused : Bool) → 543 ≤ length l
+    → last ≡ take 8 (drop 6 l) → stamps ≡ take 128 (drop 158 l) → words ≡ take 128 (drop 286 l) → log ≡ take 128 (drop 414 l)
+    → numbers ≡ numbers_of (post_in l) → n ≡ min numbers.logged 128
+    → bad ≡ bad_numbers_in numbers last → orders ≡ any_below (bad_order_in last stamps words) 128
+    → unused ≡ any_below (λ (k : ℕ). bad_unused_in log (n + k)) (128 - n)
+    → Tested l n bad orders unused
+tested l last stamps words log numbers n bad orders unused h la st wo lo nu en enu eo eu =
+    record { whole = h; some = rw nu at en; numbers = (rw (la, nu) at enu) ∙ numbers_are l; orders = rw (la, st, wo) at eo; unused = rw lo at eu }
+
+-- a part that was lent as an array
+pub lent_part : {E : Type 0} (r : Result (Bor (List ℕ)) E) (part : List ℕ) (n : ℕ) (y : Bor (List ℕ)) (Q : E → Type 0)
+    → MatchResult r (λ y. IsWholeChunk part y.now n) Q → r ≡ Ok y → y.now ≡ part
+lent_part r part n y Q h e = (MatchResult-at_ok (λ (y : Bor (List ℕ)). IsWholeChunk part y.now n) Q y e h).same
 
 bad_parts : (l : List ℕ) (n : ℕ) (numbers orders unused used : Bool) → Tested l n numbers orders unused
     → used ≡ any_below (bad_used_in (take 8 (drop 6 l)) (take 128 (drop 414 l))) n

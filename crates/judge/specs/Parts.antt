@@ -1,12 +1,20 @@
 -- The judgement's tests over numbers and single arrays: for the contracts of private functions. Assumes nothing.
 use Rattle.std.specs.Prelude.{ℕ, ◌+◌, ◌*◌, ◌/◌, ◌%◌, Bool, not, ◌&&◌, ◌||◌, List, ltb, leb, eqb, get_or}
 use Rattle.frame.specs.Lanes.{any_below}
+use Rattle.cells.specs.Sets.{role_astray}
 use Rattle.post.specs.declared.Post.{Post}
+use Rattle.row.specs.declared.Numbers.{Numbers}
 use Rattle.judge.specs.Judgement.{bad_number, bad_role, bad_own_serial}
 
 -- the tests of numbers
 abbrev pub bad_numbers : Post → Bool
 bad_numbers p = bad_number p || bad_role p || bad_own_serial p
+
+-- the same of numbers, and the last serials beside them
+abbrev pub bad_numbers_in : Numbers → List ℕ → Bool
+bad_numbers_in n last =
+    (ltb 7 n.lane || ltb 16 n.serial.0 || ltb 128 n.logged || any_below (λ (i : ℕ). ltb 16 (get_or last i 0)) 8)
+    || role_astray n.posts n.sources n.dests || not (eqb n.serial.0 (get_or last n.lane 0))
 
 abbrev pub taken_in : List ℕ → ℕ → Bool
 taken_in last place = ltb (place % 16) (get_or last (place / 16) 0)

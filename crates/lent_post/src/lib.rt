@@ -12,7 +12,7 @@ ghost use Rattle.lent_post.specs.Lent.{fresh_kept};
 
 use post::Post;
 
-// The refusal's number or 0, and the record after it.
+// The refusal's number or 0, as C wants it, and the record after it (`lent_fresh`).
 #[derive(Clone, Copy)]
 pub(crate) struct Made {
     pub refusal: u8,
@@ -30,10 +30,9 @@ pub(crate) struct Stepped {
 pub fn drift_post_fresh(p: &mut Post, lane: u8, posts: u8, sources: u8, dests: u8) -> u8
     ensures { (result ≡ fresh_refusal lane posts sources dests) × (p.new ≡ fresh_kept p.old lane posts sources dests) }
 {
-    let before = *p;
-    let after = by_value::fresh(before, lane, posts, sources, dests);
-    *p = after.post;
-    after.refusal
+    let Made { refusal, post } = by_value::fresh(*p, lane, posts, sources, dests);
+    *p = post;
+    refusal
 }
 
 // The post sends an order (6, 12, 21 to 24); its broadcast goes into the buffer.
@@ -42,10 +41,9 @@ pub fn drift_post_order(p: &mut Post, word: u16, buffer: &mut [u8]) -> u64
         × ((p.new ≡ (order_singly p.old word buffer.old).post)
         × (buffer.new ≡ order_buffer p.old word buffer.old)) }
 {
-    let before = *p;
-    let after = by_value::order(before, word, buffer);
-    *p = after.post;
-    after.answer
+    let Stepped { answer, post } = by_value::order(*p, word, buffer);
+    *p = post;
+    answer
 }
 
 // The post hears a frame (6 to 12, 21, 24, 26, 28 to 30); its broadcast, if the order is taken, goes into the buffer.
@@ -54,16 +52,14 @@ pub fn drift_post_hear(p: &mut Post, frame: &[u8], buffer: &mut [u8]) -> u64
         × ((p.new ≡ (hear_singly p.old frame.now buffer.old).post)
         × (buffer.new ≡ hear_buffer p.old frame.now buffer.old)) }
 {
-    let before = *p;
-    let after = by_value::hear(before, frame, buffer);
-    *p = after.post;
-    after.answer
+    let Stepped { answer, post } = by_value::hear(*p, frame, buffer);
+    *p = post;
+    answer
 }
 
 // The post sends a beacon (6, 12, 21), which goes into the buffer; the record stays as it is.
 pub fn drift_post_beacon(p: &Post, buffer: &mut [u8]) -> u8
     ensures { (result ≡ beacon_refusal_singly p.now buffer.old) × (buffer.new ≡ beacon_buffer p.now buffer.old) }
 {
-    let post = *p;
-    by_value::beacon(post, buffer)
+    refusal::number_of(single::beacon(*p, buffer))
 }

@@ -4,8 +4,7 @@ use mathlib.Core.Bool.{Bool, true, false, cond}
 use mathlib.Core.List.{List}
 use Prim.Native.Nat.{ℕ}
 use lib.Dec.{eqb}
-use Rattle.lines.specs.declared.Line.{Line}
-use Rattle.lines.specs.declared.Line.TheVariants.{Refused}
+use Rattle.lines.specs.Line.{Line, Refused}
 use Rattle.lines.specs.Forms.{order_form, hear_form, beacon_form, roll_form, read_form, read_yard}
 use Rattle.lines.specs.Lines.{yard_line, order_line, hear_line, beacon_line, roll_line, yard_or, roll_or, beacon_or, hear_or, line_at}
 use Rattle.lines.specs.Values.{LineValues, of_form, only_number, values_of, of_form_unless, values_at}

@@ -1,3 +1,5 @@
+pub mod Line
+pub mod Judged
 pub mod Forms
 pub mod Lines
 pub mod Values

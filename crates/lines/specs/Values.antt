@@ -1,8 +1,7 @@
 -- Document 01's number, form and values for each case of a line, and those of the line that begins at a place. Assumes nothing.
 use Rattle.std.specs.Prelude.{ℕ, cond, List, [], ◌∷◌, eqb}
 use Rattle.text.specs.Bytes.{bytes}
-use Rattle.lines.specs.declared.Line.{Line}
-use Rattle.lines.specs.declared.Line.TheVariants.{Yard, Order, Hear, Beacon, Roll, Refused}
+use Rattle.lines.specs.Line.{Line, Yard, Order, Hear, Beacon, Roll, Refused}
 use Rattle.lines.specs.Forms.{order_form, hear_form, beacon_form, roll_form, read_form, read_yard}
 use Rattle.lines.specs.Lines.{yard_line_refusal, step_line_refusal}
 

@@ -2,7 +2,10 @@
 #![tactic(auto)]
 
 ghost use Rattle.std.specs.Prelude.{◌≡◌};
-ghost use Rattle.lines.specs.Lines.{number_of, next_of};
+ghost use Rattle.lines.specs.Line.{line_answer};
+ghost use Rattle.lines.specs.Lines.{next_of};
+
+use refusal::Refusal;
 
 // How far a yard line was read: its posts, sources and destinations so far as sets of eight bits, and whether its lanes
 // rise and are at most 7.
@@ -16,7 +19,7 @@ pub struct YardScan {
     pub rising: bool,
 }
 
-// A line as it was read, with the place of the line after it, or the number that it is refused by (2 to 5).
+// A line as it was read, with the place of the line after it.
 #[derive(Clone, Copy)]
 pub enum Line {
     Yard {
@@ -42,69 +45,30 @@ pub enum Line {
     Roll {
         next: usize,
     },
-    Refused(u8),
 }
 
-// The first refused line and its number; number 0 for a script that is not refused, beside how many lines it has.
+// The first refused line of a script, counted from 1, and why; line 0 where the script is too long.
 #[derive(Clone, Copy)]
-pub struct Judged {
+pub struct BadLine {
     pub line: u16,
-    pub number: u8,
+    pub refusal: Refusal,
 }
 
 // The longest script, in bytes.
 pub const LONGEST: usize = 48000;
 
-// The number that a line is refused by, or 0.
-pub fn number_of(l: Line) -> u8
-    ensures { result ≡ number_of l }
-{
-    match l {
-        Line::Yard {
-            posts: _,
-            sources: _,
-            dests: _,
-            next: _,
-        } => 0,
-        Line::Order {
-            lane: _,
-            word: _,
-            next: _,
-        } => 0,
-        Line::Hear {
-            lane: _,
-            frame: _,
-            next: _,
-        } => 0,
-        Line::Beacon { lane: _, next: _ } => 0,
-        Line::Roll { next: _ } => 0,
-        Line::Refused(number) => number,
-    }
-}
-
 // The place of the line after a line; nothing is read after a refused one.
-pub fn next_of(s: &[u8], l: Line) -> usize
-    ensures { result ≡ next_of s.now l }
+pub fn next_of(s: &[u8], l: Result<Line, Refusal>) -> usize
+    ensures { result ≡ next_of s.now (line_answer l) }
 {
     match l {
-        Line::Yard {
-            posts: _,
-            sources: _,
-            dests: _,
-            next,
-        } => next,
-        Line::Order {
-            lane: _,
-            word: _,
-            next,
-        } => next,
-        Line::Hear {
-            lane: _,
-            frame: _,
-            next,
-        } => next,
-        Line::Beacon { lane: _, next } => next,
-        Line::Roll { next } => next,
-        Line::Refused(_) => s.len(),
+        Ok(
+            Line::Yard { next, .. }
+            | Line::Order { next, .. }
+            | Line::Hear { next, .. }
+            | Line::Beacon { next, .. }
+            | Line::Roll { next },
+        ) => next,
+        Err(_) => s.len(),
     }
 }

@@ -1,8 +1,7 @@
 -- What a script prints and what it leaves on the air: document 01, "Script and printout". Assumes nothing.
 use Rattle.std.specs.Prelude.{ℕ, ◌+◌, cond, not, List, [], ◌∷◌, ◌++◌, eqb, length}
 use Rattle.text.specs.Decimal.{given}
-use Rattle.lines.specs.declared.Line.{Line}
-use Rattle.lines.specs.declared.Line.TheVariants.{Yard, Order, Hear, Beacon, Roll, Refused}
+use Rattle.lines.specs.Line.{Line, Yard, Order, Hear, Beacon, Roll, Refused}
 use Rattle.lines.specs.Lines.{line_at, next_of, lines_from, judged}
 use Rattle.state.specs.Yards as yards
 use Rattle.state.specs.Yards.{yard_made}

@@ -2,11 +2,11 @@
 use mathlib.Core.Path.{◌≡◌, refl, ap, ap₂, sym, ◌∙◌}
 use mathlib.Core.Bool.{Bool, true, false, cond, ◌&&◌}
 use mathlib.Core.List.{List}
-use Prim.Native.Nat.{ℕ, zero, suc, ◌+◌, ◌-◌, ◌*◌, ◌%◌, ◌<◌, ◌≤◌, max}
+use Prim.Native.Nat.{ℕ, zero, suc, ◌+◌, ◌*◌, ◌%◌, ◌<◌, ◌≤◌, max}
 use native.Mathlib.Numerals.{add-one}
 use native.Mathlib.Omega.{arith}
 use lib.Dec.{eqb, ltb, leb}
-use lib.ListN.{get_or, set, replicate}
+use lib.ListN.{get_or, set, replicate, take, drop}
 use borrow.Author.Tests.{eqb-true, eqb-false, eq-eqb, ne_eqb, ltb-false, lt-ltb, le-ltb, leb-true, leb-false}
 use Rattle.frame.specs.Layout.{no_entry}
 use Rattle.frame.specs.declared.Entry.{Entry}
@@ -14,6 +14,8 @@ use Rattle.frame.specs.declared.Serial.{Serial}
 use Rattle.frame.specs.declared.Stamp.{Stamp}
 use Rattle.cells.specs.Tables.{stamp_under}
 use Rattle.cells.proofs.Places.{entry_read}
+use Rattle.row.specs.Rows.{part}
+use Rattle.row.proofs.Laws.{part_get}
 use Rattle.post.specs.Newest.{newer, newest_below, newest, newest_entries}
 use Rattle.newest.specs.Loops.{greatest_below, last_below, entries_below}
 
@@ -24,15 +26,11 @@ stamp_is_lem s n p = ap (λ m. record { 0 = m }) p
 pub serial_is : (s : Serial) (n : ℕ) → s.0 ≡ n → s ≡ record { 0 = n }
 serial_is s n p = ap (λ m. record { 0 = m }) p
 
--- the first stamp, and one stamp more
-pub greatest_one : (table : List ℕ) (first : ℕ) → get_or table first 0 ≡ greatest_below table first 1
+-- one stamp more
+pub greatest_more : (table : List ℕ) (first n k g r : ℕ) → k ≡ first + n → g ≡ greatest_below table first n
+    → r ≡ max g (get_or table k 0) → r ≡ greatest_below table first (n + 1)
 unfolding greatest_below
-greatest_one table first = let e : first + 0 ≡ first = omega arith in rw e (omega arith)
-
-pub greatest_more : (table : List ℕ) (first n g r : ℕ) → g ≡ greatest_below table first n → r ≡ max g (get_or table (first + n) 0)
-    → r ≡ greatest_below table first (n + 1)
-unfolding greatest_below
-greatest_more table first n g r p q = rw (add-one, ← p) q
+greatest_more table first n k g r e p q = rw (add-one, ← p, ← e) q
 
 -- no stamp is greater
 bound_more : (table : List ℕ) (first n k g : ℕ) → k < suc n → (k < n → get_or table (first + k) 0 ≤ g)
@@ -46,26 +44,6 @@ pub greatest_bound : (table : List ℕ) (first n k : ℕ) → k < n → get_or t
 unfolding greatest_below
 greatest_bound table first zero k h = absurd (omega arith)
 greatest_bound table first (suc n) k h = bound_more table first n k _ h (greatest_bound table first n k)
-
--- 1 or 0, by a difference
-pub is_greatest_is : (x g r : ℕ) → x ≤ g → 0 < g → r ≡ x - (g - 1) → r ≡ cond (eqb x g) 1 0
-is_greatest_is x g r h p e = go (eqb x g) refl where
-  go : (t : Bool) → eqb x g ≡ t → r ≡ cond (eqb x g) 1 0
-  go true f = let i : x ≡ g = eqb-true x g f in rw f (omega arith)
-  go false f = rw f (omega (arith, eqb-false x g f))
-
--- a serial with its flag or 0, by a product
-pub flagged_is : (x g a s : ℕ) → a ≡ cond (eqb x g) 1 0 → a * (32 + s) ≡ cond (eqb x g) (32 + s) 0
-flagged_is x g a s e = go (eqb x g) e where
-  go : (t : Bool) → a ≡ cond t 1 0 → a * (32 + s) ≡ cond t (32 + s) 0
-  go true f = rw f (omega arith)
-  go false f = rw f (omega arith)
-
-pub flagged_bound : (x g a s : ℕ) → s ≤ 16 → a ≡ cond (eqb x g) 1 0 → a * (32 + s) ≤ 48
-flagged_bound x g a s h e = go (eqb x g) e where
-  go : (t : Bool) → a ≡ cond t 1 0 → a * (32 + s) ≤ 48
-  go true f = rw f (omega arith)
-  go false f = rw f (omega arith)
 
 -- the flag of a last serial, where 0 says that there is none
 abbrev pub flag_of : ℕ → ℕ
@@ -89,12 +67,12 @@ flag_more zero n false h = refl
 flag_more (suc l) n true h = rw (lt-ltb 0 (max (suc l) n) (omega arith), lt-ltb 0 (suc l) (omega arith)) (omega arith)
 flag_more (suc l) n false h = let z : max (suc l) 0 ≡ suc l = omega arith in rw (z, lt-ltb 0 (suc l) (omega arith)) (omega arith)
 
-pub last_more_lem : (table : List ℕ) (first m n l v r : ℕ) → 0 < n → l ≡ flag_of (last_below table first m n)
-    → v ≡ cond (eqb (get_or table (first + n) 0) m) (32 + n) 0 → r ≡ max l v
+pub last_more_lem : (table : List ℕ) (first m n k l v r : ℕ) → 0 < n → k ≡ first + n → l ≡ flag_of (last_below table first m n)
+    → v ≡ cond (eqb (get_or table k 0) m) (32 + n) 0 → r ≡ max l v
     → r ≡ flag_of (last_below table first m (n + 1))
 unfolding last_below
-last_more_lem table first m n l v r h p q e =
-    e ∙ ap₂ max p q ∙ flag_more (last_below table first m n) n (eqb (get_or table (first + n) 0) m) h ∙ ap (λ k. flag_of (last_below table first m k)) (sym (add-one n))
+last_more_lem table first m n k l v r h f p q e =
+    e ∙ ap₂ max p (rw f at q) ∙ flag_more (last_below table first m n) n (eqb (get_or table (first + n) 0) m) h ∙ ap (λ k. flag_of (last_below table first m k)) (sym (add-one n))
 
 -- the last serial below n is not above n
 larger_bound : (l n : ℕ) (t : Bool) → l ≤ n → max l (cond t n 0) ≤ suc n
@@ -182,3 +160,17 @@ entries_more table n es r e p q s = rw (add-one, ← p, ← q) s
 pub entries_all : (table : List ℕ) → entries_below table 8 ≡ newest_entries table
 unfolding entries_below newest_entries
 entries_all table = refl
+
+-- the newest of a lane's stamps alone is that of the lane in the table
+lane_stamp : (table : List ℕ) (m lane n : ℕ) → m ≡ 17 → n ≤ 16
+    → stamp_under (take m (drop (lane * 17) table)) 0 n ≡ stamp_under table lane n
+unfolding part
+lane_stamp table m lane n w h =
+    let e : 0 * 17 + n ≡ n = omega arith in
+    (rw e at (entry_read (take m (drop (lane * 17) table)) 0 n h)) ∙ part_get table (lane * 17) m n (omega arith) ∙ sym (entry_read table lane n h)
+
+pub lane_newest : (table : List ℕ) (m lane n : ℕ) → m ≡ 17 → n ≤ 17
+    → newest_below (take m (drop (lane * 17) table)) 0 n ≡ newest_below table lane n
+unfolding newest_below newer
+lane_newest table m lane zero w h = refl
+lane_newest table m lane (suc n) w h = rw (lane_stamp table m lane n w (omega arith), lane_newest table m lane n w (omega arith))

@@ -2,93 +2,76 @@
 // specs/OnRows.antt, those of the loops specs/Loops.antt.
 #![tactic(auto)]
 
-ghost use Rattle.std.specs.Prelude.{◌≡◌, cond, ◌+◌, ◌-◌, ◌<◌, ◌≤◌, max, eqb, length};
-ghost use Rattle.frame.specs.Layout.{no_entry};
-ghost use Rattle.post.specs.Newest.{newest, newest_entries};
+ghost use Rattle.std.specs.Prelude.{◌≡◌, cond, ◌+◌, ◌-◌, ◌<◌, ◌≤◌, eqb, length};
+ghost use Rattle.post.specs.Newest.{newest};
 ghost use Rattle.newest.specs.OnRows.{entries_in};
 ghost use Rattle.newest.specs.Loops.{greatest_below, last_below};
 
 use frame::{Entry, Frame, Serial, Stamp};
 use post::Post;
 
-// Where the table stands in a row.
+// Where the table stands in a row, and how many of its stamps are a lane's.
 const TABLE: usize = row::TABLE as usize;
 
 const TABLE_END: usize = row::STAMPS as usize;
+
+const STAMPS: usize = Serial::COUNT as usize;
+
+const NONE: Entry = Entry {
+    serial: Serial(0),
+    stamp: Stamp(0),
+};
 
 // The newest entry of each lane. A row that is cut short has none.
 pub fn newest_entries(row: &[u16]) -> [Entry; Frame::LANES]
     ensures { result ≡ entries_in row.now }
 {
+    let mut entries = [NONE; Frame::LANES];
     if row.len() < row::LENGTH {
-        return [none(); Frame::LANES];
+        return entries;
     }
-    entries_of(&row[TABLE..TABLE_END])
-}
-
-fn entries_of(table: &[u16]) -> [Entry; Frame::LANES]
-    requires { 136 ≤ length table.now }
-    ensures { result ≡ newest_entries table.now }
-{
-    let mut entries = [none(); Frame::LANES];
-    for lane in 0..Frame::LANES {
-        entries[lane] = newest_of(table, lane as u8);
+    let table = &row[TABLE..TABLE_END];
+    for (lane, entry) in entries.iter_mut().enumerate() {
+        let first = lane * STAMPS;
+        *entry = newest_of(&table[first..first + STAMPS]);
     }
     entries
 }
 
-// No entry.
-fn none() -> Entry
-    ensures { result ≡ no_entry }
+// Of a lane's stamps the greatest, and the last serial that it stands under.
+fn newest_of(stamps: &[u16]) -> Entry
+    requires { length stamps.now ≡ 17 }
+    ensures { result ≡ newest stamps.now 0 }
 {
-    Entry {
-        serial: Serial(0),
-        stamp: Stamp(0),
-    }
-}
-
-// The greatest stamp of the lane, and the last serial that it stands under.
-fn newest_of(table: &[u16], lane: u8) -> Entry
-    requires { (lane < 8) × (136 ≤ length table.now) }
-    ensures { result ≡ newest table.now lane }
-{
-    let first = (lane as usize) * (Serial::COUNT as usize);
-    let stamp = greatest(table, first);
+    let stamp = greatest(stamps);
     if stamp.0 == 0 {
-        none()
-    } else {
-        Entry {
-            serial: last_under(table, first, stamp),
-            stamp: stamp,
-        }
+        return NONE;
+    }
+    Entry {
+        serial: last_under(stamps, stamp),
+        stamp,
     }
 }
 
-// The greatest of the 17 stamps from this place on.
-fn greatest(table: &[u16], first: usize) -> Stamp
-    requires { first + 17 ≤ length table.now }
-    ensures { result ≡ record { 0 = greatest_below table.now first 17 } }
+fn greatest(stamps: &[u16]) -> Stamp
+    ensures { result ≡ record { 0 = greatest_below stamps.now 0 (length stamps.now) } }
 {
-    let mut stamp = Stamp(table[first]);
-    for serial in 1..Post::SERIALS {
-        stamp = cells::later(stamp, Stamp(table[first + (serial as usize)]));
+    let mut greatest: u16 = 0;
+    for stamp in stamps {
+        greatest = greatest.max(*stamp);
     }
-    stamp
+    Stamp(greatest)
 }
 
-// The last serial that the greatest stamp stands under.
-fn last_under(table: &[u16], first: usize, stamp: Stamp) -> Serial
-    requires { (first + 17 ≤ length table.now) × (0 < stamp.0) × (greatest_below table.now first 17 ≡ stamp.0) }
-    ensures { result ≡ record { 0 = last_below table.now first stamp.0 17 } }
+// The last serial that the greatest stamp stands under. By a range of serials, which `flagged` takes beside the stamps.
+fn last_under(stamps: &[u16], greatest: Stamp) -> Serial
+    requires { (length stamps.now ≡ 17) × (0 < greatest.0) × (greatest_below stamps.now 0 17 ≡ greatest.0) }
+    ensures { result ≡ record { 0 = last_below stamps.now 0 greatest.0 17 } }
 {
     let mut highest: u8 = 0;
     for serial in 1..Post::SERIALS {
-        let found = flagged(
-            Stamp(table[first + (serial as usize)]),
-            stamp,
-            Serial(serial),
-        );
-        highest = higher(highest, found);
+        let found = flagged(Stamp(stamps[serial as usize]), greatest, Serial(serial));
+        highest = highest.max(found);
     }
     Serial(highest % 32)
 }
@@ -99,7 +82,7 @@ fn flagged(stamp: Stamp, greatest: Stamp, serial: Serial) -> u8
     requires { (stamp.0 ≤ greatest.0) × (0 < greatest.0) × (serial.0 ≤ 16) }
     ensures { result ≡ cond (eqb stamp.0 greatest.0) (32 + serial.0) 0 }
 {
-    (is_greatest(stamp, greatest) * (32 + (serial.0 as u16))) as u8
+    (is_greatest(stamp, greatest) * (32 + u16::from(serial.0))) as u8
 }
 
 // 1 if the stamp is the greatest, or else 0: by how much it is above what lies just below the greatest.
@@ -107,19 +90,5 @@ fn is_greatest(stamp: Stamp, greatest: Stamp) -> u16
     requires { (stamp.0 ≤ greatest.0) × (0 < greatest.0) }
     ensures { result ≡ cond (eqb stamp.0 greatest.0) 1 0 }
 {
-    less(stamp.0, greatest.0 - 1)
-}
-
-// The higher of two flagged serials.
-fn higher(a: u8, b: u8) -> u8
-    ensures { result ≡ max a b }
-{
-    if a < b { b } else { a }
-}
-
-// The difference, and 0 where there is none.
-fn less(a: u16, b: u16) -> u16
-    ensures { result ≡ a - b }
-{
-    if a < b { 0 } else { a - b }
+    stamp.0.saturating_sub(greatest.0 - 1)
 }

@@ -43,10 +43,10 @@ impl Post {
         ensures { result ≡ fresh_post lane posts sources dests }
     {
         Post {
-            lane: lane,
-            posts: posts,
-            sources: sources,
-            dests: dests,
+            lane,
+            posts,
+            sources,
+            dests,
             clock: Stamp(0),
             serial: Serial(0),
             logged: 0,

@@ -5,13 +5,30 @@ use mathlib.Core.List.{List, [], ◌∷◌, ◌++◌}
 use Prim.Native.Nat.{ℕ, ◌+◌, ◌<◌, ◌≤◌}
 use native.Mathlib.Omega.{arith}
 use borrow.Author.Tests.{le-leb, lt-leb}
-use lib.ListN.{length, set, take, drop}
+use lib.ListN.{length, length-set, set, take, drop}
 use lib.Seq.{get_or-set_same}
 use Rattle.post.specs.declared.Post.{Post}
 use Rattle.row.specs.Rows.{put_in, post_in, known_in, past_in}
 use Rattle.row.proofs.Laws.{apart, part_apart, cell_apart, same_known_cell, same_past_cell}
 use Rattle.row.proofs.LentParts.{put_part, part_back, length_back, part_other, cell_other, past_other}
-use Rattle.post_row.specs.Records.{with_numbers, loaded_in}
+use Rattle.post_row.specs.Records.{loaded_in}
+
+-- q with the numbers of p
+abbrev pub with_numbers : Post → Post → Post
+with_numbers q p = record {
+  lane = p.lane;
+  posts = p.posts;
+  sources = p.sources;
+  dests = p.dests;
+  clock = p.clock;
+  serial = p.serial;
+  logged = p.logged;
+  last = q.last;
+  table = q.table;
+  stamps = q.stamps;
+  words = q.words;
+  log = q.log;
+}
 
 -- a part that was lent and is now ys
 pub lent : (l ys zs : List ℕ) (a n : ℕ) → zs ≡ ys → take a l ++ (zs ++ drop n (drop a l)) ≡ put_part l a n ys
@@ -93,11 +110,12 @@ module _ (l : List ℕ) (a b c d e f : ℕ) (h : 543 ≤ length l) where
 -- the numbers of p
 pub numbers_load : (p : Post) (l m n : List ℕ) → 543 ≤ length l
     → m ≡ put_part l 0 6 (p.lane ∷ p.sources ∷ p.dests ∷ p.clock.0 ∷ p.serial.0 ∷ p.logged ∷ []) → n ≡ set m 542 p.posts
-    → (post_in n ≡ with_numbers (post_in l) p) × ((known_in n ≡ known_in l) × (past_in n ≡ past_in l))
+    → (post_in n ≡ with_numbers (post_in l) p) × ((known_in n ≡ known_in l) × (past_in n ≡ past_in l)) × (543 ≤ length n)
 numbers_load p l m n h em en =
     let r = rest l m (p.lane ∷ p.sources ∷ p.dests ∷ p.clock.0 ∷ p.serial.0 ∷ p.logged ∷ []) 0 6 h refl (omega arith) refl em in (
       rw (en, put_posts m p.posts r.0, em, put_six l p.lane p.sources p.dests p.clock.0 p.serial.0 p.logged h),
       (same_known_cell m n 542 p.posts refl refl en ∙ r.1, same_past_cell m n 542 p.posts (omega arith) en ∙ r.2),
+      rw en (simp length-set (omega arith)),
     )
 
 -- ---- the whole record

@@ -1,20 +1,15 @@
 -- The record of a row, part by part; where its numbers fit their bytes it is the row's post. Assumes nothing.
-use mathlib.Core.Path.{◌≡◌, refl, ◌∙◌}
+use mathlib.Core.Path.{◌≡◌, ◌∙◌}
 use mathlib.Core.List.{List, map}
-use Prim.Native.Nat.{ℕ, ◌+◌, ◌<◌, ◌≤◌}
+use Prim.Native.Nat.{ℕ, ◌<◌, ◌≤◌}
 use native.Mathlib.Nat.{mod-eq_of_lt}
-use native.Mathlib.Omega.{arith}
 use borrow.Author.Tests.{le-leb, lt-leb}
-use lib.ListN.{length, get_or, take, drop, length-take, length-drop, length-map, get_or-map}
+use lib.ListN.{length, get_or, take, drop, length-map, get_or-map}
 use lib.Seq.{ext_get_or}
 use Rattle.post.specs.declared.Post.{Post}
 use Rattle.post.specs.Record.{fresh_post}
 use Rattle.row.specs.Rows.{part, post_in}
 use Rattle.post_row.specs.Records.{byte_of, as_record, record_in, Fits}
-
--- a part is as long as what takes it
-pub as_long : (l to : List ℕ) (a n : ℕ) → a + n ≤ length l → length to ≡ n → length to ≡ length (take n (drop a l))
-as_long l to a n h e = simp (length-take, length-drop) (omega arith)
 
 -- the numbers of a record, and its arrays
 pub stores : (l : List ℕ) (lane posts sources dests serial logged : ℕ) (last table stamps words log : List ℕ) → 543 ≤ length l
@@ -27,10 +22,6 @@ pub stores : (l : List ℕ) (lane posts sources dests serial logged : ℕ) (last
 unfolding record_in post_in part
 stores l lane posts sources dests serial logged last table stamps words log h ea eb ec ed ee ef el et es ew eg =
     rw (le-leb 543 (length l) h, ea, eb, ec, ed, ee, ef, el, et, es, ew, eg)
-
-pub empty_tables : (q : Post) → q ≡ fresh_post 0 0 0 0
-    → (length q.last ≡ 8) × (length q.table ≡ 136) × (length q.stamps ≡ 128) × (length q.words ≡ 128) × (length q.log ≡ 128)
-empty_tables q e = rw e (refl, refl, refl, refl, refl)
 
 pub stores_none : (l : List ℕ) (q : Post) → length l < 543 → q ≡ fresh_post 0 0 0 0 → q ≡ record_in l
 unfolding record_in

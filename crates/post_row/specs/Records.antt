@@ -43,22 +43,3 @@ pub record Fits (p : Post) : Type 0 where
   pub logged : p.logged < 256
   pub last : (i : ℕ) → get_or p.last i 0 < 256
   pub log : (i : ℕ) → get_or p.log i 0 < 256
-
--- ---- for contracts of private functions
-
--- q with the numbers of p
-abbrev pub with_numbers : Post → Post → Post
-with_numbers q p = record {
-  lane = p.lane;
-  posts = p.posts;
-  sources = p.sources;
-  dests = p.dests;
-  clock = p.clock;
-  serial = p.serial;
-  logged = p.logged;
-  last = q.last;
-  table = q.table;
-  stamps = q.stamps;
-  words = q.words;
-  log = q.log;
-}

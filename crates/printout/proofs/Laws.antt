@@ -1,24 +1,19 @@
 -- Texts written one after the other, a log's items and a yard's posts one by one. Assumes nothing.
-use mathlib.Core.Path.{◌≡◌, refl, ap, sym, ◌∙◌}
-use mathlib.Core.Bool.{Bool, true, false, ◌&&◌}
+use mathlib.Core.Path.{◌≡◌, ap, sym, ◌∙◌}
 use mathlib.Core.List.{List, [], ◌∷◌, ◌++◌, map-append, append-nil, append_assoc}
-use Prim.Native.Nat.{ℕ, ◌+◌, ◌-◌, ◌/◌, ◌<◌, ◌≤◌, min}
+use Prim.Native.Nat.{ℕ, ◌+◌, ◌/◌, ◌<◌}
 use native.Mathlib.Numerals.{add-one}
-use native.Mathlib.Omega.{arith}
-use borrow.Author.Tests.{ltb-true, ltb-false}
-use lib.Dec.{ltb}
-use lib.ListN.{length, take, get_or, length-take, length-drop}
-use lib.Seq.{take-suc, take_all}
+use lib.ListN.{length, take, get_or}
+use lib.Seq.{take-suc}
 use Rattle.text.specs.Bytes.{bytes}
 use Rattle.text.specs.Decimal.{decimal}
 use Rattle.text.specs.Writing.{Out, wrote}
 use Rattle.text.proofs.Laws.{next}
 use Rattle.post.specs.declared.Post.{Post}
 use Rattle.roll.specs.Logs.{order_at}
-use Rattle.row.specs.Rows.{part, post_in}
 use Rattle.roll.specs.Runs.{Order}
 use Rattle.meaning.specs.Texts.{three_text, item_text, items_text}
-use Rattle.printout.specs.Items.{items_of}
+use Rattle.printout.specs.Items.{items_at}
 
 -- a text and a number after what is written
 pub labelled : (o : Out) (t a b : List ℕ) {p q : Out} → p ≡ wrote o t → q ≡ wrote p (a ++ b) → q ≡ wrote o (t ++ a ++ b)
@@ -40,38 +35,8 @@ unfolding items_text
 items_one [] x = append-nil (item_text x)
 items_one (y ∷ l) x = ap (λ (t : List ℕ). item_text y ++ t) (items_one l x) ∙ sym (append_assoc (item_text y) (items_text l) (item_text x))
 
--- the item at place k of a log after those before it
-pub items_more : (o p q : Out) (post : Post) (k place : ℕ) → k < length post.log → p ≡ wrote o (items_of post k) → place ≡ get_or post.log k 0
-    → q ≡ wrote p (item_text (order_at post place)) → q ≡ wrote o (items_of post (k + 1))
-items_more o p q post k place h e ep f =
-    rw (add-one, take-suc post.log k 0, map-append, items_one) (next _ _ _ e (rw ep at f))
-
--- both tests of the loop over a log
-pub tests_hold : (k n m : ℕ) → (ltb k n && ltb k m) ≡ true → (k < n) × (k < m)
-tests_hold k n m h = go (ltb k n) refl (ltb k m) refl h where
-  go : (b : Bool) → ltb k n ≡ b → (c : Bool) → ltb k m ≡ c → (b && c) ≡ true → (k < n) × (k < m)
-  go true f true g h = (ltb-true _ _ f, ltb-true _ _ g)
-  go true f false g h = absurd (let z : ◌≡◌ {A = ℕ} 0 1 = cc in omega arith)
-  go false f c g h = absurd (let z : ◌≡◌ {A = ℕ} 0 1 = cc in omega arith)
-
--- where one fails, every item asked for is written
-pub items_done : (log : List ℕ) (k n : ℕ) → k ≤ n → (ltb k n && ltb k (length log)) ≡ false → take k log ≡ take n log
-items_done log k n low h = go (ltb k n) refl (ltb k (length log)) refl h where
-  go : (b : Bool) → ltb k n ≡ b → (c : Bool) → ltb k (length log) ≡ c → (b && c) ≡ false → take k log ≡ take n log
-  go true f true g h = absurd (let z : ◌≡◌ {A = ℕ} 0 1 = cc in omega arith)
-  go true f false g h =
-      let s : length log ≤ k = ltb-false _ _ g in
-      take_all k log s ∙ sym (take_all n log (omega arith))
-  go false f c g h =
-      let s : n ≤ k = ltb-false _ _ f in
-      let e : k ≡ n = omega arith in
-      ap (λ (i : ℕ). take i log) e
-
--- how many cells of the log a row has
-pub cells_none : (l : List ℕ) → length l < 414 → 0 ≡ length (post_in l).log
-unfolding post_in part
-cells_none l h = sym (simp (length-take, length-drop) (omega arith))
-
-pub cells_some : (l : List ℕ) (n : ℕ) → 414 ≤ length l → n ≡ min (length l - 414) 128 → n ≡ length (post_in l).log
-unfolding post_in part
-cells_some l n h e = simp (length-take, length-drop) (omega arith)
+-- the item at place k of a list after those before it
+pub items_more : (o p q : Out) (post : Post) (places : List ℕ) (k place : ℕ) → k < length places → p ≡ wrote o (items_at post (take k places))
+    → place ≡ get_or places k 0 → q ≡ wrote p (item_text (order_at post place)) → q ≡ wrote o (items_at post (take (k + 1) places))
+items_more o p q post places k place h e ep f =
+    rw (add-one, take-suc places k 0, map-append, items_one) (next _ _ _ e (rw ep at f))

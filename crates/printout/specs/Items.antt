@@ -14,6 +14,10 @@ refusal_text label line number = label ++ decimal line ++ bytes " " ++ decimal n
 abbrev pub post_head : ℕ → ℕ → ℕ → List ℕ
 post_head lane clock sent = bytes "(post " ++ decimal lane ++ bytes " (clock " ++ decimal clock ++ bytes ") (sent " ++ decimal sent ++ bytes ") (log"
 
+-- the items that these places of a log stand for
+abbrev pub items_at : Post → List ℕ → List ℕ
+items_at p places = items_text (map (order_at p) places)
+
 -- the first n items of a post's log
 abbrev pub items_of : Post → ℕ → List ℕ
-items_of p n = items_text (map (order_at p) (take n p.log))
+items_of p n = items_at p (take n p.log)

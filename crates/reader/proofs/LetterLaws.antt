@@ -1,6 +1,6 @@
 -- The letter after a line's `(` leaves one form, and a role's first letter one role. Assumes nothing.
 use mathlib.Core.Path.{◌≡◌, refl}
-use mathlib.Core.Bool.{Bool, true, false, cond, not}
+use mathlib.Core.Bool.{Bool, false, cond}
 use mathlib.Core.List.{List, [], ◌∷◌}
 use Prim.Native.Nat.{ℕ, zero, suc, ◌+◌, ◌<◌}
 use native.Mathlib.Omega.{arith}
@@ -11,9 +11,7 @@ use Rattle.lines.specs.Forms.{Item, text, number, order_form, hear_form, beacon_
 use Rattle.lines.specs.Lines.{order_line, hear_line, beacon_line, roll_line, yard_or, roll_or, beacon_or, hear_or, line_at}
 use Rattle.scan.specs.declared.Scan.{Scan}
 use Rattle.lines.specs.declared.YardScan.{YardScan}
-use Rattle.lines.specs.declared.Line.{Line}
-use Rattle.lines.specs.declared.Line.TheVariants.{Refused}
-use Rattle.scan.proofs.Laws.{never}
+use Rattle.lines.specs.Line.{Line, Refused}
 use Rattle.scan.proofs.TextLaws.{and_no, stands_not, text_off}
 
 -- ---- a form whose first text does not stand is not read
@@ -137,15 +135,6 @@ role_off s name role c other l n =
     rw (text_off s name c (rw t (and_no c.ok)))
 
 module _ (s : List ℕ) (c : Scan) where
-  pub role_stop : not c.ok ≡ true → c ≡ read_role s c
-  unfolding read_role or_role read_text
-  role_stop h = go c.ok h
-    where
-      go : (ok : Bool) → not ok ≡ true → ◌≡◌ {A = Scan} (record { ok = ok; at = c.at; earlier = c.earlier; latest = c.latest })
-          (read_role s (record { ok = ok; at = c.at; earlier = c.earlier; latest = c.latest }))
-      go true e = never e
-      go false e = refl
-
   abbrev first : ℕ
   first = get_or s c.at 0
 

@@ -1,3 +1,4 @@
+pub mod Refused
 pub mod LetterLaws
 pub mod Progress
 pub mod FormsLaws

@@ -12,7 +12,7 @@ use Rattle.lines.specs.Forms.{order_form, hear_form, beacon_form, roll_form, rea
 use Rattle.lines.specs.Lines.{yard_line_refusal, yard_line, step_line_refusal, order_line, hear_line, beacon_line, roll_line, yard_or, roll_or, beacon_or, hear_or, line_at, next_of}
 use Rattle.scan.specs.declared.Scan.{Scan}
 use Rattle.lines.specs.declared.YardScan.{YardScan}
-use Rattle.lines.specs.declared.Line.{Line}
+use Rattle.lines.specs.Line.{Line}
 use Rattle.scan.proofs.Laws.{both, never}
 use Rattle.scan.proofs.TextLaws.{ways, stands_in}
 

@@ -1,29 +1,26 @@
 // The forms of a script's lines: Forms.antt of the crate `lines`.
-ghost use Rattle.std.specs.Prelude.{◌≡◌, cond, ◌&&◌, length};
+ghost use Rattle.std.specs.Prelude.{◌≡◌, cond, ◌==◌, ◌&&◌, ◌||◌, [], ◌∷◌, length};
 ghost use Rattle.text.specs.Bytes.{bytes};
 ghost use Rattle.scan.specs.Scan.{stands, failed};
-ghost use Rattle.lines.specs.Forms.{order_form, hear_form, beacon_form, roll_form, read_form, as_role, or_role, read_role, read_post, bit_of, post_added, posts_read, no_posts, scan_of, ended, yard_posts, read_yard};
+ghost use Rattle.lines.specs.Forms.{text, number, beacon_form, roll_form, read_form, or_role, read_role, read_post, bit_of, post_added, posts_read, no_posts, scan_of, ended, yard_posts, read_yard};
 
-use frame::Frame;
 use lines::YardScan;
 use scan::{Scan, byte_at, fail, read_number, read_text, stands_at, start_at};
 
-// `(order LANE WORD)`
-pub(crate) fn read_order(s: &[u8], at: usize) -> Scan
-    ensures { result ≡ read_form s.now order_form at }
-{
-    let n = read_text(s, b"(order ", start_at(at));
-    let n = read_number(s, n);
-    let n = read_text(s, b" ", n);
-    let n = read_number(s, n);
-    read_text(s, b")\n", n)
+// A post's role. A scan holds its number.
+#[derive(Clone, Copy)]
+enum Role {
+    Relay = 0,
+    Source = 1,
+    Dest = 2,
+    Both = 3,
 }
 
-// `(hear LANE FRAME)`
-pub(crate) fn read_hear(s: &[u8], at: usize) -> Scan
-    ensures { result ≡ read_form s.now hear_form at }
+// `(order LANE WORD)`, `(hear LANE FRAME)`: what opens it, and two numbers.
+pub(crate) fn read_two(s: &[u8], opening: &[u8], at: usize) -> Scan
+    ensures { result ≡ read_form s.now (text opening.now ∷ number ∷ text (bytes " ") ∷ number ∷ text (bytes ")\n") ∷ []) at }
 {
-    let n = read_text(s, b"(hear ", start_at(at));
+    let n = read_text(s, opening, start_at(at));
     let n = read_number(s, n);
     let n = read_text(s, b" ", n);
     let n = read_number(s, n);
@@ -66,10 +63,8 @@ fn read_posts(s: &[u8], y: YardScan) -> YardScan
     ensures { result ≡ posts_read s.now y (length s.now) }
 {
     let mut z = y;
-    let mut more = post_begins(s, y);
-    while more {
+    while post_begins(s, z) {
         z = post_added(z, read_post(s, z.at));
-        more = post_begins(s, z);
     }
     z
 }
@@ -78,8 +73,7 @@ fn read_posts(s: &[u8], y: YardScan) -> YardScan
 fn post_begins(s: &[u8], y: YardScan) -> bool
     ensures { result ≡ (y.ok && stands s.now y.at (bytes " (")) }
 {
-    let here = stands_at(s, y.at, b" (");
-    y.ok & here
+    y.ok && stands_at(s, y.at, b" (")
 }
 
 // ` (LANE ROLE)`
@@ -93,19 +87,15 @@ fn read_post(s: &[u8], at: usize) -> Scan
     read_text(s, b")", n)
 }
 
-// A role, read as a number: 0 relay, 1 source, 2 dest, 3 both.
+// A role, read as its number.
 fn read_role(s: &[u8], c: Scan) -> Scan
     ensures { result ≡ read_role s.now c }
 {
-    if !c.ok {
-        return c;
-    }
-    let letter = byte_at(s, c.at);
-    match letter {
-        b's' => named_role(s, b"source", 1, c),
-        b'd' => named_role(s, b"dest", 2, c),
-        b'b' => named_role(s, b"both", 3, c),
-        b'r' => named_role(s, b"relay", 0, c),
+    match byte_at(s, c.at) {
+        b's' => named_role(s, b"source", Role::Source as u32, c),
+        b'd' => named_role(s, b"dest", Role::Dest as u32, c),
+        b'b' => named_role(s, b"both", Role::Both as u32, c),
+        b'r' => named_role(s, b"relay", Role::Relay as u32, c),
         _ => fail(c),
     }
 }
@@ -115,27 +105,33 @@ fn named_role(s: &[u8], name: &[u8], role: u32, c: Scan) -> Scan
     ensures { result ≡ or_role s.now name.now role c (failed c) }
 {
     let r = read_text(s, name, c);
-    if r.ok { as_role(c, role, r) } else { fail(c) }
-}
-
-fn as_role(c: Scan, role: u32, r: Scan) -> Scan
-    ensures { result ≡ as_role c role r }
-{
-    Scan {
-        ok: true,
-        at: r.at,
-        earlier: c.latest,
-        latest: role,
+    if r.ok {
+        Scan {
+            earlier: c.latest,
+            latest: role,
+            ..r
+        }
+    } else {
+        fail(c)
     }
 }
-
-const LANES: u32 = Frame::LANES as u32;
 
 // A lane's bit in a set of eight; none for a lane over 7.
 fn bit_of(lane: u32) -> u8
     ensures { result ≡ bit_of lane }
 {
-    if lane < LANES { 1u8 << lane } else { 0 }
+    1u8.checked_shl(lane).unwrap_or(0)
+}
+
+// The lane's bit where its post has a role or both of them; none elsewhere.
+fn role_bit(c: Scan, role: u32) -> u8
+    ensures { result ≡ cond (c.latest == role || c.latest == 3) (bit_of c.earlier) 0 }
+{
+    if c.latest == role || c.latest == Role::Both as u32 {
+        bit_of(c.earlier)
+    } else {
+        0
+    }
 }
 
 // A post more: its lane is at most 7 and above those before it just when its bit is above their set.
@@ -143,15 +139,13 @@ fn post_added(y: YardScan, c: Scan) -> YardScan
     ensures { result ≡ post_added y c }
 {
     let bit = bit_of(c.earlier);
-    let source = pick((c.latest == 1) | (c.latest == 3), bit, 0);
-    let dest = pick((c.latest == 2) | (c.latest == 3), bit, 0);
     YardScan {
         ok: c.ok,
         at: c.at,
         posts: y.posts | bit,
-        sources: y.sources | source,
-        dests: y.dests | dest,
-        rising: y.rising & (y.posts < bit),
+        sources: y.sources | role_bit(c, Role::Source as u32),
+        dests: y.dests | role_bit(c, Role::Dest as u32),
+        rising: y.rising && y.posts < bit,
     }
 }
 
@@ -173,9 +167,7 @@ fn scan_of(y: YardScan) -> Scan
 {
     Scan {
         ok: y.ok,
-        at: y.at,
-        earlier: 0,
-        latest: 0,
+        ..start_at(y.at)
     }
 }
 
@@ -185,16 +177,6 @@ fn end_yard(y: YardScan, c: Scan) -> YardScan
     YardScan {
         ok: c.ok,
         at: c.at,
-        posts: y.posts,
-        sources: y.sources,
-        dests: y.dests,
-        rising: y.rising,
+        ..y
     }
-}
-
-// One of two numbers, by a test.
-fn pick(test: bool, yes: u8, no: u8) -> u8
-    ensures { result ≡ cond test «yes» «no» }
-{
-    if test { yes } else { no }
 }

@@ -6,24 +6,26 @@ mod forms;
 mod line_forms;
 
 ghost use Rattle.std.specs.Prelude.{◌≡◌, ◌+◌, ◌≤◌, length, get_or};
+ghost use Rattle.lines.specs.Judged.{judged_answer};
+ghost use Rattle.lines.specs.Line.{line_answer};
 ghost use Rattle.lines.specs.Lines.{line_at, lines_of, judged_lines, judged};
 ghost use Rattle.lines.specs.Values.{values_of, values_at};
 
-use lines::{Judged, Line};
+use lines::{BadLine, Line};
+use refusal::Refusal;
 
 // The line that begins at a place: the letter after its `(` says which form it can have.
-pub fn read_line(s: &[u8], at: usize) -> Line
-    ensures value { result ≡ line_at s.now at }
-    ensures values { values_of result ≡ values_at s.now at }
+pub fn read_line(s: &[u8], at: usize) -> Result<Line, Refusal>
+    ensures value { line_answer result ≡ line_at s.now at }
+    ensures values { values_of (line_answer result) ≡ values_at s.now at }
 {
-    let letter = byte_after(s, at);
-    match letter {
-        b'o' => line_forms::order_or_refused(s, at),
-        b'h' => line_forms::hear_or_refused(s, at),
-        b'b' => line_forms::beacon_or_refused(s, at),
-        b'r' => line_forms::roll_or_refused(s, at),
-        b'y' => line_forms::yard_or_refused(s, at),
-        _ => Line::Refused(2),
+    match byte_after(s, at) {
+        b'o' => line_forms::read_order_line(s, at),
+        b'h' => line_forms::read_hear_line(s, at),
+        b'b' => line_forms::read_beacon_line(s, at),
+        b'r' => line_forms::read_roll_line(s, at),
+        b'y' => line_forms::read_yard_line(s, at),
+        _ => Err(Refusal::NoForm),
     }
 }
 
@@ -31,41 +33,41 @@ pub fn read_line(s: &[u8], at: usize) -> Line
 fn byte_after(s: &[u8], at: usize) -> u8
     ensures { result ≡ get_or s.now (at + 1) 0 }
 {
-    if at < s.len() {
-        scan::byte_at(s, at + 1)
-    } else {
-        0
-    }
+    scan::byte_at(s, at.saturating_add(1))
 }
 
-// Refusals 1 to 5, by the first refused line.
-pub fn judge(s: &[u8]) -> Judged
-    ensures { result ≡ judged s.now }
+// Refusals 1 to 5: how many lines the script has, or the first refused line.
+pub fn judge(s: &[u8]) -> Result<u16, BadLine>
+    ensures { judged_answer result ≡ judged s.now }
 {
     if s.len() > lines::LONGEST {
-        return Judged { line: 0, number: 1 };
+        return Err(BadLine {
+            line: 0,
+            refusal: Refusal::TooLong,
+        });
     }
-    if s.len() == 0 {
-        return Judged { line: 1, number: 3 };
+    if s.is_empty() {
+        return Err(BadLine {
+            line: 1,
+            refusal: Refusal::NoYard,
+        });
     }
     judge_lines(s)
 }
 
-fn judge_lines(s: &[u8]) -> Judged
+fn judge_lines(s: &[u8]) -> Result<u16, BadLine>
     requires { length s.now ≤ 48000 }
-    ensures { result ≡ judged_lines 0 (lines_of s.now) }
+    ensures { judged_answer result ≡ judged_lines 0 (lines_of s.now) }
 {
-    let mut at = 0usize;
-    let mut line = 0u16;
-    let mut number = 0u8;
+    let mut at = 0;
+    let mut line = 0;
     while at < s.len() {
+        line += 1;
         let l = read_line(s, at);
-        number = lines::number_of(l);
+        if let Err(refusal) = l {
+            return Err(BadLine { line, refusal });
+        }
         at = lines::next_of(s, l);
-        line = line + 1;
     }
-    Judged {
-        line: line,
-        number: number,
-    }
+    Ok(line)
 }

@@ -1,19 +1,18 @@
 -- One turn more of the roll call's loops on a state. Assumes nothing.
 use mathlib.Core.Path.{◌≡◌, refl, sym, ap, ◌∙◌}
-use mathlib.Core.Bool.{Bool, true, false, cond, not, ◌&&◌}
-use mathlib.Core.List.{List, [], ◌∷◌, ◌++◌}
-use Prim.Native.Nat.{ℕ, suc, ◌+◌, ◌*◌, ◌<◌, ◌≤◌}
+use mathlib.Core.Bool.{true, false}
+use mathlib.Core.List.{List, [], ◌∷◌, ◌++◌, append-nil}
+use Prim.Native.Nat.{ℕ, suc, ◌+◌, ◌*◌, ◌<◌}
 use native.Mathlib.Numerals.{add-one}
 use native.Mathlib.Omega.{arith}
 use borrow.Author.Tests.{eq-eqb, ne_eqb}
-use lib.Dec.{eqb}
 use lib.ListN.{length, get_or, length-append}
 use Rattle.cells.specs.Sets.{has_lane}
 use Rattle.cells.specs.Tables.{order_place}
 use Rattle.row.specs.Rows.{part, post_in}
 use Rattle.row.proofs.Laws.{part_get}
-use Rattle.steps.specs.declared.HearAnswer as hearings
-use Rattle.steps.specs.declared.BeaconAnswer as beaconing
+use Rattle.steps.specs.HearAnswer as hearings
+use Rattle.steps.specs.BeaconAnswer as beaconing
 use Rattle.state.specs.Yards.{post_at}
 use Rattle.yard.specs.Worlds.{Single, hear, beacon}
 use Rattle.state.specs.States.{Held, held_in, yard_in}
@@ -54,16 +53,6 @@ pub beacon_ran : (s air t exit : List ℕ) (i : ℕ) (r : beaconing.BeaconAnswer
     → after {Answer = ℕ} 1 t exit ≡ ran_in (here_in s air) (beacon i ∷ [])
 unfolding ran_in singles_in single_in
 beacon_ran s air t exit i r e = ap (λ (x : After beaconing.BeaconAnswer). record { answer = 1; held = x.held; air = x.air }) e
-
--- steps that are run only where t holds
-pub not_due : (s air : List ℕ) (l : List Single) (t b : Bool) → b ≡ t → not b ≡ true → after {Answer = ℕ} 0 s air ≡ ran_in (here_in s air) (cond t l [])
-not_due s air l t true e q = absurd (let z : ◌≡◌ {A = ℕ} 0 1 = cc in omega arith)
-not_due s air l t false e q = rw (← e) (none_ran s air)
-
-pub due : (s air t exit : List ℕ) (n : ℕ) (l : List Single) (u b : Bool) → b ≡ u → not b ≡ false → after n t exit ≡ ran_in (here_in s air) l
-    → after n t exit ≡ ran_in (here_in s air) (cond u l [])
-due s air t exit n l u true e q h = rw (← e) h
-due s air t exit n l u false e q h = absurd (let z : ◌≡◌ {A = ℕ} 0 1 = cc in omega arith)
 
 -- ---- what the hearings keep stands in the state as it stood
 
@@ -112,14 +101,14 @@ lane_more s₀ air₀ s air t exit p q n place k r h₀ h e ep ek er =
     let w = then (here_in s₀ air₀) s air t exit n 1 (lane_hears (yard_in s₀).first p q n) (hear p k ∷ []) e (hear_ran s air t exit p k r er) in
     rw (add-one n) (rw (g, add-one n) at w)
 
--- what is heard of a lane: nothing of its own
+-- what is heard of a lane: nothing of its own, else as many as the cell of its serial says
 pub lane_own : (s air : List ℕ) (p q : ℕ) → q ≡ p → after {Answer = ℕ} 0 s air ≡ ran_in (here_in s air) (lane_heard (yard_in s) p q)
 lane_own s air p q e = rw (eq-eqb q p e) (none_ran s air)
 
-pub lane_other : (s air t exit : List ℕ) (p q n i : ℕ) → (q ≡ p → ⊥) → q < 8 → n ≡ get_or s (139 + 543 * q + 4) 0 → i ≡ n
+pub lane_other : (s air t exit : List ℕ) (p q i : ℕ) → (q ≡ p → ⊥) → q < 8 → i ≡ get_or s (139 + 543 * q + 4) 0
     → after i t exit ≡ ran_in (here_in s air) (lane_hears (yard_in s).first p q i)
-    → after n t exit ≡ ran_in (here_in s air) (lane_heard (yard_in s) p q)
-lane_other s air t exit p q n i ne low en ei e = rw (ne_eqb q p ne, serial_cell s q low, ← en) (rw ei at e)
+    → after (get_or s (139 + 543 * q + 4) 0) t exit ≡ ran_in (here_in s air) (lane_heard (yard_in s) p q)
+lane_other s air t exit p q i ne low ei e = rw (ne_eqb q p ne, serial_cell s q low, ← ei) e
 
 pub lanes_more : (s₀ air₀ s air t exit : List ℕ) (n m p q : ℕ) → length s₀ ≡ 4483 → length s ≡ 4483
     → after n s air ≡ ran_in (here_in s₀ air₀) (lanes_hears (yard_in s₀) p q) → after m t exit ≡ ran_in (here_in s air) (lane_heard (yard_in s) p q)
@@ -132,47 +121,68 @@ lanes_more s₀ air₀ s air t exit n m p q h₀ h e er =
     rw (add-one q) (then (here_in s₀ air₀) s air t exit n m (lanes_hears (yard_in s₀) p q) (lane_heard (yard_in s₀) p q) e (rw (f, g) at er))
 
 pub posts_more : (s₀ air₀ s air t exit : List ℕ) (n m present p : ℕ) → length s₀ ≡ 4483 → length s ≡ 4483 → present ≡ (yard_in s₀).present
-    → after n s air ≡ ran_in (here_in s₀ air₀) (posts_hear (yard_in s₀) p)
-    → after m t exit ≡ ran_in (here_in s air) (cond (has_lane present p) (lanes_hears (yard_in s) p 8) [])
+    → after n s air ≡ ran_in (here_in s₀ air₀) (posts_hear (yard_in s₀) p) → has_lane present p ≡ true
+    → after m t exit ≡ ran_in (here_in s air) (lanes_hears (yard_in s) p 8)
     → after (n + m) t exit ≡ ran_in (here_in s₀ air₀) (posts_hear (yard_in s₀) (p + 1))
 unfolding posts_hear
-posts_more s₀ air₀ s air t exit n m present p h₀ h ep e er =
+posts_more s₀ air₀ s air t exit n m present p h₀ h ep e has er =
     let k = posts_keep (here_in s₀ air₀) (yard_in s₀) p in
     let f = same_first s₀ air₀ s air n (posts_hear (yard_in s₀) p) h₀ h e k in
     let g = same_serial s₀ air₀ s air n (posts_hear (yard_in s₀) p) h₀ h e k in
     let l = lanes_same (yard_in s) (yard_in s₀) p 8 f g in
-    rw (add-one p)
-    (then (here_in s₀ air₀) s air t exit n m (posts_hear (yard_in s₀) p) (cond (has_lane (yard_in s₀).present p) (lanes_hears (yard_in s₀) p 8) []) e (rw (l, ep) at er))
+    let there : has_lane (yard_in s₀).present p ≡ true = rw ep at has in
+    rw (add-one p, there)
+    (then (here_in s₀ air₀) s air t exit n m (posts_hear (yard_in s₀) p) (lanes_hears (yard_in s₀) p 8) e (rw l at er))
+
+pub posts_absent : (s : List ℕ) (present p : ℕ) → present ≡ (yard_in s).present → has_lane present p ≡ false → posts_hear (yard_in s) (p + 1) ≡ posts_hear (yard_in s) p
+unfolding posts_hear
+posts_absent s present p ep out = let absent : has_lane (yard_in s).present p ≡ false = rw ep at out in rw (add-one p, absent) (append-nil _)
 
 -- ---- beacons, and their hearings
 
-module _ (h : Here) (s air t exit : List ℕ) (n m : ℕ) where
-  pub sent_more : (sources i : ℕ) → after n s air ≡ ran_in h (beacons_sent sources i)
-      → after m t exit ≡ ran_in (here_in s air) (cond (has_lane sources i) (beacon i ∷ []) [])
-      → after (n + m) t exit ≡ ran_in h (beacons_sent sources (i + 1))
+module _ (h : Here) (s air t exit : List ℕ) (n : ℕ) where
+  pub sent_more : (sources i : ℕ) → after n s air ≡ ran_in h (beacons_sent sources i) → has_lane sources i ≡ true
+      → after {Answer = ℕ} 1 t exit ≡ ran_in (here_in s air) (beacon i ∷ [])
+      → after (n + 1) t exit ≡ ran_in h (beacons_sent sources (i + 1))
   unfolding beacons_sent
-  sent_more sources i e er = rw (add-one i) (then h s air t exit n m (beacons_sent sources i) (cond (has_lane sources i) (beacon i ∷ []) []) e er)
+  sent_more sources i e has er = rw (add-one i, has) (then h s air t exit n 1 (beacons_sent sources i) (beacon i ∷ []) e er)
 
-  pub heard_more : (sources from p i k : ℕ) (b : Bool) → after n s air ≡ ran_in h (beacons_heard sources from p i) → k ≡ from + sources_below sources i
-      → b ≡ has_lane sources i → after m t exit ≡ ran_in (here_in s air) (cond (b && not (eqb i p)) (hear p k ∷ []) [])
-      → after (n + m) t exit ≡ ran_in h (beacons_heard sources from p (i + 1))
+  pub heard_more : (sources from p i k : ℕ) → after n s air ≡ ran_in h (beacons_heard sources from p i) → k ≡ from + sources_below sources i
+      → has_lane sources i ≡ true → (i ≡ p → ⊥) → after {Answer = ℕ} 1 t exit ≡ ran_in (here_in s air) (hear p k ∷ [])
+      → after (n + 1) t exit ≡ ran_in h (beacons_heard sources from p (i + 1))
   unfolding beacons_heard
-  heard_more sources from p i k b e ek eb er =
-      rw (add-one i, ← ek, ← eb) (then h s air t exit n m (beacons_heard sources from p i) (cond (b && not (eqb i p)) (hear p k ∷ []) []) e er)
+  heard_more sources from p i k e ek has ne er =
+      rw (add-one i, ← ek, has, ne_eqb i p ne) (then h s air t exit n 1 (beacons_heard sources from p i) (hear p k ∷ []) e er)
 
-  pub posts_heard : (present sources from p : ℕ) → after n s air ≡ ran_in h (posts_hear_beacons present sources from p)
-      → after m t exit ≡ ran_in (here_in s air) (cond (has_lane present p) (beacons_heard sources from p 8) [])
+  pub posts_heard : (present sources from p m : ℕ) → after n s air ≡ ran_in h (posts_hear_beacons present sources from p) → has_lane present p ≡ true
+      → after m t exit ≡ ran_in (here_in s air) (beacons_heard sources from p 8)
       → after (n + m) t exit ≡ ran_in h (posts_hear_beacons present sources from (p + 1))
   unfolding posts_hear_beacons
-  posts_heard present sources from p e er =
-      rw (add-one p) (then h s air t exit n m (posts_hear_beacons present sources from p) (cond (has_lane present p) (beacons_heard sources from p 8) []) e er)
+  posts_heard present sources from p m e has er =
+      rw (add-one p, has) (then h s air t exit n m (posts_hear_beacons present sources from p) (beacons_heard sources from p 8) e er)
 
--- the beacon of the next source: none is further on than the lanes are
-pub below_more : (sources from i k one : ℕ) (b : Bool) → k ≡ from + sources_below sources i → k ≤ from + i → b ≡ has_lane sources i → one ≡ cond b 1 0
-    → (k + one ≡ from + sources_below sources (i + 1)) × (k + one ≤ from + (i + 1))
+-- no beacon of a lane that is no source, and none for a lane without a post
+pub sent_none : (sources i : ℕ) → has_lane sources i ≡ false → beacons_sent sources (i + 1) ≡ beacons_sent sources i
+unfolding beacons_sent
+sent_none sources i out = rw (add-one i, out) (append-nil _)
+
+pub heard_none : (sources from p i : ℕ) → has_lane sources i ≡ false → beacons_heard sources from p (i + 1) ≡ beacons_heard sources from p i
+unfolding beacons_heard
+heard_none sources from p i out = rw (add-one i, out) (append-nil _)
+
+pub heard_own : (sources from p i : ℕ) → has_lane sources i ≡ true → i ≡ p → beacons_heard sources from p (i + 1) ≡ beacons_heard sources from p i
+unfolding beacons_heard
+heard_own sources from p i has e = rw (add-one i, has, eq-eqb i p e) (append-nil _)
+
+pub heard_absent : (present sources from p : ℕ) → has_lane present p ≡ false → posts_hear_beacons present sources from (p + 1) ≡ posts_hear_beacons present sources from p
+unfolding posts_hear_beacons
+heard_absent present sources from p out = rw (add-one p, out) (append-nil _)
+
+-- the beacon of the next source
+pub below_one : (sources i : ℕ) → has_lane sources i ≡ true → sources_below sources (i + 1) ≡ sources_below sources i + 1
 unfolding sources_below
-below_more sources from i k one b e l eb eo = (rw (add-one i, ← eb, ← eo, e) (omega arith), go b eo)
-  where
-    go : (b : Bool) → one ≡ cond b 1 0 → k + one ≤ from + (i + 1)
-    go true q = omega (arith, l, q)
-    go false q = omega (arith, l, q)
+below_one sources i has = rw (add-one i, has)
+
+pub below_none : (sources i : ℕ) → has_lane sources i ≡ false → sources_below sources (i + 1) ≡ sources_below sources i
+unfolding sources_below
+below_none sources i out = rw (add-one i, out) (omega arith)

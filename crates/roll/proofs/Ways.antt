@@ -20,7 +20,7 @@ use Rattle.state.specs.Yards.{Yard, beacons_at, spent}
 use Rattle.state.specs.States.{Held, held_in, yard_in}
 use Rattle.yard.specs.InState.{After, after, Here, here_in, singles_in}
 use Rattle.state.proofs.StateLaws.{held_whole, held_other, frames_in_lem, beacons_in_lem}
-use Rattle.roll.specs.declared.RollAnswer as calling
+use Rattle.roll.specs.RollAnswer as calling
 use Rattle.roll.specs.RollCall.{posts_hear, beacons_sent, posts_hear_beacons, source_spent, roll_refusal}
 use Rattle.roll.specs.Answers.{roll_number}
 use Rattle.roll.specs.Calls.{frames_in, roll_steps_in, ran_in, roll_refusal_in, calls_in}
@@ -129,7 +129,7 @@ Promised r exit air' held air =
     × ((roll_number r ≡ roll_refusal_in held air) × (roll_count r ≡ roll_count_in held air))
 
 refused : (held : Held) (air : List ℕ) (number : ℕ) → 0 < number → roll_refusal_in held air ≡ number
-    → Promised (calling.TheVariants.Refused number) held air held air
+    → Promised (calling.Refused number) held air held air
 unfolding calls_in roll_count_in
 refused held air number above e =
     let z : eqb number 0 ≡ false = ne_eqb number 0 (λ q. omega (arith, q)) in
@@ -137,32 +137,32 @@ refused held air number above e =
 
 ran : (held exit : Held) (air air' : List ℕ) (n : ℕ) → roll_refusal_in held air ≡ 0
     → ◌≡◌ {A = After ℕ} (record { answer = n; held = exit; air = air' }) (ran_in (record { held = held; air = air }) (roll_steps_in held air))
-    → Promised (calling.TheVariants.Called n) exit air' held air
+    → Promised (calling.Called n) exit air' held air
 unfolding calls_in roll_count_in ran_in
 ran held exit air air' n e er = (
-  rw e (ap (λ (x : After ℕ). record { answer = calling.TheVariants.Called x.answer; held = x.held; air = x.air }) er),
+  rw e (ap (λ (x : After ℕ). record { answer = calling.Called x.answer; held = x.held; air = x.air }) er),
   (rw e, rw e (ap (λ (x : After ℕ). x.answer) er)),
 )
 
 module _ (s air : List ℕ) where
   -- a state of another length
-  pub call_12 : (length s ≡ 4483 → ⊥) → Promised (calling.TheVariants.Refused 12) (held_in s) air (held_in s) air
+  pub call_12 : (length s ≡ 4483 → ⊥) → Promised (calling.Refused 12) (held_in s) air (held_in s) air
   unfolding roll_refusal_in
   call_12 h = refused (held_in s) air 12 (omega arith) (rw (held_other s h))
 
   -- an air of another length
-  pub call_13 : length s ≡ 4483 → (length air ≡ 65536 → ⊥) → Promised (calling.TheVariants.Refused 13) (held_in s) air (held_in s) air
+  pub call_13 : length s ≡ 4483 → (length air ≡ 65536 → ⊥) → Promised (calling.Refused 13) (held_in s) air (held_in s) air
   unfolding roll_refusal_in roll_refusal
   call_13 h bad = refused (held_in s) air 13 (omega arith) (rw (held_whole s h, ne_eqb (length air) 65536 bad))
 
   module _ (told : Bool) (h : length s ≡ 4483) (good : length air ≡ 65536) (es : told ≡ source_spent (yard_in s)) where
     -- some source has no beacon left
-    pub call_27 : told ≡ true → Promised (calling.TheVariants.Refused 27) (held_in s) air (held_in s) air
+    pub call_27 : told ≡ true → Promised (calling.Refused 27) (held_in s) air (held_in s) air
     unfolding roll_refusal_in roll_refusal
     call_27 t = refused (held_in s) air 27 (omega arith) (rw (held_whole s h, eq-eqb (length air) 65536 good, ← es, t))
 
     -- then the list is run
     pub call_runs : (t exit : List ℕ) (n : ℕ) → told ≡ false → after n t exit ≡ ran_in (here_in s air) (roll_steps_in (held_in s) air)
-        → Promised (calling.TheVariants.Called n) (held_in t) exit (held_in s) air
+        → Promised (calling.Called n) (held_in t) exit (held_in s) air
     unfolding roll_refusal_in roll_refusal
     call_runs t exit n f e = ran (held_in s) (held_in t) air exit n (rw (held_whole s h, eq-eqb (length air) 65536 good, ← es, f)) e

@@ -7,7 +7,7 @@ use Rattle.state.specs.States.{Held, whole, other}
 use Rattle.yard.specs.InState.{After, orders_in, hears_in, beacons_in, Here, single_in, singles_in}
 use Rattle.roll.specs.RollCall.{lane_hears, posts_hear, beacons_sent, posts_hear_beacons, roll_refusal}
 use Rattle.roll.specs.Runs.{Step, one, roll, Answer, ordered, heard, beaconed, called}
-use Rattle.roll.specs.declared.RollAnswer as calling
+use Rattle.roll.specs.RollAnswer as calling
 
 -- ---- the list
 
@@ -44,8 +44,8 @@ unfoldable pub calls_in : Held → List ℕ → After calling.RollAnswer
 calls_in held air =
     let number = roll_refusal_in held air in
     let ran = ran_in (record { held = held; air = air }) (roll_steps_in held air) in
-    cond (eqb number 0) (record { answer = calling.TheVariants.Called ran.answer; held = ran.held; air = ran.air })
-    (record { answer = calling.TheVariants.Refused number; held = held; air = air })
+    cond (eqb number 0) (record { answer = calling.Called ran.answer; held = ran.held; air = ran.air })
+    (record { answer = calling.Refused number; held = held; air = air })
 
 -- ---- a step, single or a roll call
 

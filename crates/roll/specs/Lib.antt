@@ -1,3 +1,4 @@
+pub mod RollAnswer
 pub mod RollCall
 pub mod Runs
 pub mod Logs

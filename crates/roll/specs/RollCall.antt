@@ -6,7 +6,7 @@ use Rattle.cells.specs.Sets.{has_lane}
 use Rattle.cells.specs.Tables.{order_place}
 use Rattle.state.specs.Yards.{Yard, post_at, beacons_at, spent}
 use Rattle.yard.specs.Worlds.{World, Single, hear, beacon, singles}
-use Rattle.roll.specs.declared.RollAnswer as calling
+use Rattle.roll.specs.RollAnswer as calling
 
 -- ---- "For each post in rising lane order: hear the first frame of every order of the other lanes, lane by lane, serials rising."
 
@@ -80,8 +80,8 @@ pub record RollCalled : Type 0 where
 unfoldable pub roll_call : World → RollCalled
 roll_call w =
     cond (eqb (roll_refusal w) 0)
-    (record { answer = calling.TheVariants.Called (length (roll_steps w)); yard = (singles w (roll_steps w)).yard })
-    (record { answer = calling.TheVariants.Refused (roll_refusal w); yard = w.yard })
+    (record { answer = calling.Called (length (roll_steps w)); yard = (singles w (roll_steps w)).yard })
+    (record { answer = calling.Refused (roll_refusal w); yard = w.yard })
 
 -- the air after it
 unfoldable pub roll_call_air : World → List ℕ

@@ -1,12 +1,12 @@
 -- A list of steps, roll calls among them, and what it answers: document 01, "The words of demand 3". Assumes nothing.
 use Rattle.std.specs.Prelude.{ℕ, List, [], ◌∷◌, ◌++◌}
-use Rattle.steps.specs.declared.OrderAnswer as orders
-use Rattle.steps.specs.declared.HearAnswer as hearings
-use Rattle.steps.specs.declared.BeaconAnswer as beaconing
+use Rattle.steps.specs.OrderAnswer as orders
+use Rattle.steps.specs.HearAnswer as hearings
+use Rattle.steps.specs.BeaconAnswer as beaconing
 use Rattle.yard.specs.Singles.{yard_orders, yard_hears, yard_beacons}
 use Rattle.yard.specs.Worlds.{World, Single, order, hear, beacon, single}
 use Rattle.roll.specs.RollCall.{roll_call, roll_call_air}
-use Rattle.roll.specs.declared.RollAnswer as calling
+use Rattle.roll.specs.RollAnswer as calling
 
 -- "A step of the list is an order, a beacon, a hear or a roll call with any arguments."
 pub data Step : Type 0 where
@@ -46,8 +46,8 @@ pub record Order : Type 0 where
 
 -- "An order is sent by an order step that is not refused. Its lane and word are that step's arguments, its serial and stamp are in that step's answer."
 unfoldable pub order_sent_by : ℕ → ℕ → orders.OrderAnswer → List Order
-order_sent_by lane word (orders.TheVariants.Sent serial stamp count) = record { lane = lane; serial = serial.0; stamp = stamp.0; word = word } ∷ []
-order_sent_by lane word (orders.TheVariants.Refused number) = []
+order_sent_by lane word (orders.Sent serial stamp count) = record { lane = lane; serial = serial.0; stamp = stamp.0; word = word } ∷ []
+order_sent_by lane word (orders.Refused number) = []
 
 -- the order that a step sends, if any: only an order step sends one
 unfoldable pub sent_by : World → Step → List Order

@@ -1,13 +1,13 @@
 -- The value of a roll call's answer, and what it is: document 01, "Roll call". Assumes nothing.
 use Rattle.std.specs.Prelude.{ℕ, cond, List, eqb, length}
 use Rattle.state.specs.States.{Held}
-use Rattle.roll.specs.declared.RollAnswer as calling
+use Rattle.roll.specs.RollAnswer as calling
 use Rattle.roll.specs.Calls.{roll_steps_in, roll_refusal_in}
 
 -- the number of single steps that were run
 abbrev pub roll_count : calling.RollAnswer → ℕ
-roll_count (calling.TheVariants.Called count) = count
-roll_count (calling.TheVariants.Refused number) = 0
+roll_count (calling.Called count) = count
+roll_count (calling.Refused number) = 0
 
 -- "and returns the length of the list": 0 where it is refused
 unfoldable pub roll_count_in : Held → List ℕ → ℕ

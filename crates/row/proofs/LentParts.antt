@@ -2,13 +2,12 @@
 use mathlib.Core.Path.{◌≡◌, refl, sym, ap, ◌∙◌}
 use mathlib.Core.Bool.{Bool, true, false, ◌||◌}
 use mathlib.Core.List.{List, ◌++◌}
-use Prim.Native.Nat.{ℕ, ◌+◌, ◌-◌, ◌<◌, ◌≤◌}
-use native.Mathlib.Numerals.{add-one}
+use Prim.Native.Nat.{ℕ, ◌+◌, ◌-◌, ◌≤◌}
 use native.Mathlib.Omega.{arith}
 use borrow.Author.Tests.{leb-true}
 use lib.Dec.{leb}
-use lib.ListN.{length, get_or, set, take, drop, length-take, length-drop, length-append, take-append-drop}
-use lib.Seq.{take-suc, take-suc-set, take_all, length-take-le, take_at, drop_at, take-append-le, drop-append-le, drop-append-add, drop-drop}
+use lib.ListN.{length, get_or, take, drop, length-take, length-drop, length-append, take-append-drop}
+use lib.Seq.{length-take-le, take_at, drop_at, take-append-le, drop-append-le, drop-append-add, drop-drop}
 use Rattle.row.specs.Rows.{part, past_in}
 use Rattle.row.proofs.Laws.{apart, part_get}
 
@@ -72,13 +71,3 @@ module _ (s : List ℕ) (a n : ℕ) (ys : List ℕ) (h : a + n ≤ length s) (l 
   pub cell_other : (k : ℕ) → apart a n k 1 ≡ true → get_or (put_part s a n ys) (k + 0) 0 ≡ get_or s (k + 0) 0
   cell_other k e =
       sym (part_get (put_part s a n ys) k 1 0 (omega arith)) ∙ ap (λ (x : List ℕ). get_or x 0 0) (part_other k 1 e) ∙ part_get s k 1 0 (omega arith)
-
--- ---- a list written cell by cell
-
--- one cell more
-pub fill_more : (to ys : List ℕ) (i : ℕ) → i < length to → i < length ys → take i to ≡ take i ys → take (i + 1) (set to i (get_or ys i 0)) ≡ take (i + 1) ys
-fill_more to ys i h k e = rw (add-one, take-suc-set to i (get_or ys i 0) h, take-suc ys i 0 k, e)
-
--- all of them
-pub filled : (to ys : List ℕ) (i : ℕ) → length to ≡ i → length ys ≡ i → take i to ≡ take i ys → to ≡ ys
-filled to ys i h k e = sym (take_all i to (omega arith)) ∙ e ∙ take_all i ys (omega arith)

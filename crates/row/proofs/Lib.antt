@@ -2,3 +2,4 @@ pub mod Exact
 pub mod Laws
 pub mod LentParts
 pub mod LentRows
+pub mod LogCut

@@ -3,7 +3,7 @@
 // specs/Rows.antt, which has the layout.
 #![tactic(auto)]
 
-ghost use Rattle.std.specs.Prelude.{◌≡◌, get_or, set};
+ghost use Rattle.std.specs.Prelude.{◌≡◌, get_or, set, take};
 ghost use Rattle.cells.specs.Tables.{entry_place, order_place};
 ghost use Rattle.post.specs.Record.{last_of, with_log};
 ghost use Rattle.post.specs.Taking.{kept};
@@ -14,6 +14,14 @@ use frame::{Frame, Serial, Stamp};
 // A serial as a cell holds it: in a row that somebody made up it may be any number of 16 bits.
 #[derive(Clone, Copy)]
 pub struct SerialCell(pub u16);
+
+impl From<Serial> for SerialCell {
+    ghost from_gives = { λ serial cell. cell.0 ≡ serial.0 };
+
+    fn from(serial: Serial) -> Self {
+        SerialCell(u16::from(serial.0))
+    }
+}
 
 // The numbers of a record: lane, sets of lanes, clock, own serial, and the length of the log.
 #[derive(Clone, Copy)]
@@ -74,23 +82,24 @@ pub const LENGTH: usize = POSTS + 1;
 pub fn get(row: &[u16], i: usize) -> u16
     ensures { result ≡ get_or row.now i 0 }
 {
-    if i < row.len() { row[i] } else { 0 }
+    row.get(i).copied().unwrap_or(0)
 }
 
 pub fn put(row: &mut [u16], i: usize, v: u16)
     ensures { row.new ≡ set row.old i v }
 {
+    // Not by `get_mut`: after a write through it a proof knows the length alone.
     if i < row.len() {
         row[i] = v;
     }
 }
 
-// Cell i of the n from `first` on.
+// Cell i of the n from `first` on. First cell and count stay two parameters here and in `put_in`, as the callers above pass them.
 pub fn get_in(row: &[u16], first: u16, n: u16, i: usize) -> u16
     ensures { result ≡ get_or (part row.now first n) i 0 }
 {
-    if i < (n as usize) {
-        get(row, (first as usize) + i)
+    if i < n as usize {
+        get(row, first as usize + i)
     } else {
         0
     }
@@ -99,12 +108,13 @@ pub fn get_in(row: &[u16], first: u16, n: u16, i: usize) -> u16
 pub fn put_in(row: &mut [u16], first: u16, n: u16, i: usize, v: u16)
     ensures { row.new ≡ put_in row.old first n i v }
 {
-    if i < (n as usize) {
-        put(row, (first as usize) + i, v)
+    if i < n as usize {
+        put(row, first as usize + i, v);
     }
 }
 
 // The numbers of a record.
+#[tactic(auto, unfolding(crate::specs::Rows::post_in))]
 pub fn read_numbers(row: &[u16]) -> Numbers
     ensures { result ≡ numbers_of (post_in row.now) }
 {
@@ -119,7 +129,18 @@ pub fn read_numbers(row: &[u16]) -> Numbers
     }
 }
 
+// The places in a row's log: as many as its length says, or all that there are where it is cut short.
+pub fn log_of(row: &[u16]) -> &[u16]
+    ensures { result.now ≡ take (post_in row.now).logged (post_in row.now).log }
+{
+    let logged = read_numbers(row).logged as usize;
+    let rest = &row[(LOG as usize).min(row.len())..];
+    let log = &rest[..cells::PLACES.min(rest.len())];
+    &log[..logged.min(log.len())]
+}
+
 // The place that stands k-th in the log.
+#[tactic(auto, unfolding(crate::specs::Rows::post_in))]
 pub fn log_at(row: &[u16], k: usize) -> u16
     ensures { result ≡ get_or (post_in row.now).log k 0 }
 {
@@ -135,6 +156,7 @@ pub fn put_log_at(row: &mut [u16], k: usize, place: u16)
 }
 
 // The last serial taken from a lane.
+#[tactic(auto, unfolding(crate::specs::Rows::post_in))]
 pub fn last_taken(row: &[u16], lane: u8) -> SerialCell
     ensures { result.0 ≡ last_of (post_in row.now) lane }
 {
@@ -142,6 +164,7 @@ pub fn last_taken(row: &[u16], lane: u8) -> SerialCell
 }
 
 // The stamp of the order at a place.
+#[tactic(auto, unfolding(crate::specs::Rows::post_in))]
 pub fn stamp_at(row: &[u16], place: usize) -> Stamp
     ensures { result.0 ≡ get_or (post_in row.now).stamps place 0 }
 {
@@ -152,25 +175,20 @@ pub fn stamp_at(row: &[u16], place: usize) -> Stamp
 fn entry_place(lane: u16, serial: SerialCell) -> usize
     ensures { result ≡ entry_place lane serial.0 }
 {
-    if serial.0 <= LAST_SERIAL {
-        (lane as usize) * LANE_ENTRIES + (serial.0 as usize)
-    } else {
-        cells::TABLE
+    if serial.0 > LAST_SERIAL {
+        return cells::TABLE;
     }
+    lane as usize * LANE_ENTRIES + serial.0 as usize
 }
 
 // Where order (lane, serial) stands among the orders taken: past their end for a serial other than 1 to 16.
 pub fn order_place(lane: u8, serial: SerialCell) -> usize
     ensures { result ≡ order_place lane serial.0 }
 {
-    if serial.0 == 0 {
+    if serial.0 == 0 || serial.0 > LAST_SERIAL {
         return cells::PLACES;
     }
-    if serial.0 <= LAST_SERIAL {
-        (lane as usize) * LANE_ORDERS + ((serial.0 - 1) as usize)
-    } else {
-        cells::PLACES
-    }
+    lane as usize * LANE_ORDERS + (serial.0 as usize - 1)
 }
 
 // The order is kept, and it is the last taken from its lane.
@@ -179,7 +197,7 @@ pub fn keep(row: &mut [u16], lane: u8, serial: Serial, stamp: Stamp, word: u16)
     ensures known { known_in row.new ≡ known_in row.old }
     ensures past { past_in row.new ≡ past_in row.old }
 {
-    let place = order_place(lane, SerialCell(serial.0 as u16));
+    let place = order_place(lane, SerialCell::from(serial));
     put_in(row, LAST, LANES, lane as usize, serial.0 as u16);
     put_in(row, STAMPS, ORDERS, place, stamp.0);
     put_in(row, WORDS, ORDERS, place, word);

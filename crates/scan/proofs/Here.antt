@@ -1,5 +1,5 @@
 -- A text that stands in another at a place, byte by byte. Assumes nothing.
-use mathlib.Core.Path.{◌≡◌, refl, sym, ◌∙◌}
+use mathlib.Core.Path.{◌≡◌, refl, ap, sym, ◌∙◌}
 use mathlib.Core.Bool.{Bool, true, false}
 use mathlib.Core.List.{List, [], ◌∷◌, ◌++◌}
 use mathlib.Core.Logic.{⊎_elim}
@@ -7,8 +7,13 @@ use Prim.Native.Nat.{ℕ, zero, suc, ◌+◌, ◌-◌, ◌<◌, ◌≤◌}
 use native.Mathlib.Omega.{arith}
 use native.Mathlib.Nat.{le_of_suc-le-suc, not-suc-le-zero, eq-or-lt_of_le}
 use lib.Dec.{eqb, ltb, leb}
-use lib.ListN.{length, get_or, length-append, get_or-append}
-use lib.Seq.{get_or-append-add}
+use lib.ListN.{length, get_or, take, drop, length-append, get_or-append}
+use Rattle.std.specs.Prelude.{MatchBool, ◌≢◌}
+use Rattle.std.specs.List.{starts_with, slice_range}
+use Rattle.std.specs.Cmp.Lexicographic.{told_text}
+use Rattle.std.proofs.lemmas.Bool.{false_from_ne_true}
+use Rattle.std.proofs.lemmas.List.{length-drop, length-take-le, get_or-take, get_or-drop, ext_get_or}
+use lib.Seq.{get_or-append-add, take_all}
 use borrow.Author.Tests.{eqb-true, eq-eqb, leb-true, le-leb, ltb-true, ltb-false}
 use Rattle.scan.specs.Scan.{all_below, same_bytes, stands}
 use Rattle.scan.proofs.Laws.{both}
@@ -74,3 +79,30 @@ here_head s t at x h = let q : at + 0 ≡ at = omega arith in rw q at (h.1 0 (om
 pub here_at : (s t : List ℕ) (at i : ℕ) → Here s at t → i < length t → get_or s (at + i) 0 ≡ get_or t i 0
 unfolding Here
 here_at s t at i h l = h.1 i l
+
+-- a text stands where the rest from there on starts with it
+pub starts_stand : (s t rest : List ℕ) (at : ℕ) (r : Bool) → rest ≡ slice_range s at (length s) → at ≤ length s → r ≡ starts_with eqb rest t
+    → (r ≡ true → length t ≤ length rest) → r ≡ stands s at t
+unfolding Here
+starts_stand s t rest at r e h q b = go r (told_text t (take (length t) rest) r q) b
+  where
+    from : rest ≡ drop at s
+    from = e ∙ take_all (length s - at) (drop at s) (let l = length-drop at s in omega arith)
+
+    long : length rest ≡ length s - at
+    long = rw from (length-drop at s)
+
+    each : (i : ℕ) → i < length t → get_or (take (length t) rest) i 0 ≡ get_or s (at + i) 0
+    each i k = get_or-take (length t) rest i 0 k ∙ ap (λ (l : List ℕ). get_or l i 0) from ∙ get_or-drop at s i 0
+
+    begins : t ≡ take (length t) rest → length t ≤ length rest → Here s at t
+    begins f l = (omega (arith, long), λ i k. sym (ap (λ (l : List ℕ). get_or l i 0) f ∙ each i k))
+
+    begun : Here s at t → t ≡ take (length t) rest
+    begun k =
+        ext_get_or 0 t (take (length t) rest) (sym (length-take-le (length t) rest (let b = k.0 in omega (arith, long))))
+        (λ i l. sym (each i l ∙ k.1 i l))
+
+    go : (r : Bool) → MatchBool r (t ≡ take (length t) rest) (t ≢ take (length t) rest) → (r ≡ true → length t ≤ length rest) → r ≡ stands s at t
+    go true f b = sym (here_stands s t at (begins f (b refl)))
+    go false f b = sym (false_from_ne_true _ (λ k. f (begun (stands_here s t at k))))

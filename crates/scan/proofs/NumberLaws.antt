@@ -1,64 +1,42 @@
 -- Laws of reading a number digit by digit: Scan.antt. Assumes nothing.
-use mathlib.Core.Path.{◌≡◌, refl, ap, sym, ◌∙◌}
-use mathlib.Core.Bool.{Bool, true, false, not, ◌&&◌}
+use mathlib.Core.Path.{◌≡◌, refl, sym, ◌∙◌}
+use mathlib.Core.Bool.{Bool, true, false, ◌&&◌}
 use mathlib.Core.List.{List}
+use mathlib.Core.Logic.{◌⊎◌, inl, inr}
 use Prim.Native.Nat.{ℕ, zero, suc, ◌+◌, ◌*◌, ◌-◌, ◌<◌, ◌≤◌}
 use native.Mathlib.Omega.{arith}
-use lib.ListN.{length, get_or}
+use lib.ListN.{get_or}
 use lib.Dec.{ltb, leb}
-use borrow.Author.Tests.{ltb-true, leb-true, lt-ltb}
+use borrow.Author.Tests.{ltb-true, lt-ltb}
 use Rattle.scan.specs.Scan.{digit_at, failed, first_digit, next_digit, read_number}
 use Rattle.scan.specs.declared.Scan.{Scan}
-use Rattle.scan.proofs.Laws.{both, never, digit_in}
-use Rattle.scan.proofs.TextLaws.{ways, and_no, not_no}
+use Rattle.scan.proofs.Laws.{both, never}
+use Rattle.scan.proofs.TextLaws.{ways, and_no}
 
 -- ---- one digit
 
 abbrev pub is_digit : ℕ → Bool
 is_digit x = leb 48 x && leb x 57
 
-digit_range : (x : ℕ) → is_digit x ≡ true → (48 ≤ x) × (x ≤ 57)
-digit_range x h = let b = both (leb 48 x) (leb x 57) h in (leb-true _ _ b.0, leb-true _ _ b.1)
-
-digit_yes : (s : List ℕ) (at x : ℕ) → x ≡ get_or s at 0 → is_digit x ≡ true → digit_at s at ≡ x - 48
+pub digit_yes : (s : List ℕ) (at x d : ℕ) → x ≡ get_or s at 0 → true ≡ is_digit x → d ≡ x - 48 → d ≡ digit_at s at
 unfolding digit_at
-digit_yes s at x e h = rw (← e, h)
+digit_yes s at x d e h f = rw (← e, ← h) f
 
-digit_no : (s : List ℕ) (at x : ℕ) → x ≡ get_or s at 0 → is_digit x ≡ false → digit_at s at ≡ 10
+pub digit_no : (s : List ℕ) (at x : ℕ) → x ≡ get_or s at 0 → false ≡ is_digit x → 10 ≡ digit_at s at
 unfolding digit_at
-digit_no s at x e h = rw (← e, h)
-
-digit_within : (s : List ℕ) (at x : ℕ) → x ≡ get_or s at 0 → is_digit x ≡ true → at < length s
-digit_within s at x e h =
-    let r = digit_range x h in
-    let y = digit_yes s at x e h in
-    digit_in s at (omega arith)
+digit_no s at x e h = rw (← e, ← h)
 
 -- ---- the first digit
 
-pub first_stop : (s : List ℕ) (c : Scan) → not c.ok ≡ true → c ≡ first_digit s c
+pub first_yes : (s : List ℕ) (c : Scan) (d : ℕ) → c.ok ≡ true → d ≡ digit_at s c.at → d < 10
+    → ◌≡◌ {A = Scan} (record { ok = c.ok; at = c.at + 1; earlier = c.latest; latest = d }) (first_digit s c)
 unfolding first_digit
-first_stop s c h = go c.ok h
-  where
-    go : (ok : Bool) → not ok ≡ true → ◌≡◌ {A = Scan} (record { ok = ok; at = c.at; earlier = c.earlier; latest = c.latest })
-        (first_digit s (record { ok = ok; at = c.at; earlier = c.earlier; latest = c.latest }))
-    go true e = never e
-    go false e = refl
+first_yes s c d o e l = rw (o, ← e, lt-ltb d 10 l)
 
-pub first_yes : (s : List ℕ) (c : Scan) (x : ℕ) (d : Bool) → not c.ok ≡ false → x ≡ get_or s c.at 0 → d ≡ is_digit x → d ≡ true
-    → ◌≡◌ {A = Scan} (record { ok = true; at = c.at + 1; earlier = c.latest; latest = x - 48 }) (first_digit s c)
+pub first_no : (s : List ℕ) (c r : Scan) → r ≡ failed c → (c.ok ≡ false) ⊎ (10 ≡ digit_at s c.at) → r ≡ first_digit s c
 unfolding first_digit
-first_yes s c x d o e f h =
-    let r = digit_range x (sym f ∙ h) in
-    rw (not_no c.ok o, digit_yes s c.at x e (sym f ∙ h), lt-ltb (x - 48) 10 (omega arith))
-
-pub first_no : (s : List ℕ) (c r : Scan) (x : ℕ) (d : Bool) → x ≡ get_or s c.at 0 → d ≡ is_digit x → d ≡ false → r ≡ failed c
-    → r ≡ first_digit s c
-unfolding first_digit
-first_no s c r x d e f h q = rw (digit_no s c.at x e (sym f ∙ h), and_no _) q
-
-pub first_fits : (s : List ℕ) (at x : ℕ) (d : Bool) → x ≡ get_or s at 0 → d ≡ is_digit x → d ≡ true → (at < length s) × (48 ≤ x)
-first_fits s at x d e f h = (digit_within s at x e (sym f ∙ h), (digit_range x (sym f ∙ h)).0)
+first_no s c r q (inl o) = rw o q
+first_no s c r q (inr e) = rw (← e, and_no _) q
 
 -- a first digit that is read is below 10
 first_below : (s : List ℕ) (c : Scan) → (first_digit s c).ok ≡ true → (first_digit s c).latest < 10
@@ -67,23 +45,18 @@ first_below s c = ways (λ (r : Scan). r.ok ≡ true → r.latest < 10) (c.ok &&
     (λ e o. ltb-true _ _ (both c.ok _ e).1)
     (λ o. never o)
 
-pub first_small : (s : List ℕ) (c n : Scan) → n ≡ first_digit s c → (n.ok && ltb 0 n.latest) ≡ true
-    → (n.ok ≡ true) × (0 < n.latest) × (n.latest < 10)
-first_small s c n e h =
-    let b = both n.ok _ h in
-    (b.0, ltb-true _ _ b.1, rw e (first_below s c (rw e at b.0)))
+pub first_small : (s : List ℕ) (c n : Scan) → n ≡ first_digit s c → n.ok ≡ true → n.latest < 10
+first_small s c n e h = rw e (first_below s c (rw e at h))
 
 -- ---- the digits after it
 
 abbrev onward : Bool → Bool → Bool → Bool → Bool
 onward ok digit above below = ok && digit && above && below
 
-next_yes : (s : List ℕ) (c : Scan) (x : ℕ) → c.ok ≡ true → x ≡ get_or s c.at 0 → is_digit x ≡ true → 0 < c.latest → c.latest < 10000
-    → next_digit s c ≡ record { ok = true; at = c.at + 1; earlier = c.earlier; latest = 10 * c.latest + (x - 48) }
+next_yes : (s : List ℕ) (c : Scan) (d : ℕ) → c.ok ≡ true → d ≡ digit_at s c.at → d < 10 → 0 < c.latest → c.latest < 10000
+    → next_digit s c ≡ record { ok = c.ok; at = c.at + 1; earlier = c.earlier; latest = 10 * c.latest + d }
 unfolding next_digit
-next_yes s c x o e h l m =
-    let r = digit_range x h in
-    rw (o, digit_yes s c.at x e h, lt-ltb (x - 48) 10 (omega arith), lt-ltb _ _ l, lt-ltb _ _ m)
+next_yes s c d o e h l m = rw (o, ← e, lt-ltb d 10 h, lt-ltb _ _ l, lt-ltb _ _ m)
 
 next_same : (s : List ℕ) (c : Scan) → onward c.ok (ltb (digit_at s c.at) 10) (ltb 0 c.latest) (ltb c.latest 10000) ≡ false
     → next_digit s c ≡ c
@@ -99,8 +72,8 @@ no_above false d z m e = refl
 no_above true false z m e = refl
 no_above true true z m e = rw e
 
-next_none : (s : List ℕ) (c : Scan) (x : ℕ) → x ≡ get_or s c.at 0 → is_digit x ≡ false → next_digit s c ≡ c
-next_none s c x e h = next_same s c (rw (digit_no s c.at x e h) (no_digit c.ok _ _))
+next_none : (s : List ℕ) (c : Scan) → 10 ≡ digit_at s c.at → next_digit s c ≡ c
+next_none s c e = next_same s c (rw (← e) (no_digit c.ok _ _))
 
 next_zero : (s : List ℕ) (c : Scan) → (c.ok && ltb 0 c.latest) ≡ false → next_digit s c ≡ c
 next_zero s c h = next_same s c (no_above c.ok _ _ _ h)
@@ -131,60 +104,51 @@ tens_next (suc (suc zero)) h = (omega arith, omega arith)
 tens_next (suc (suc (suc zero))) h = (omega arith, omega arith)
 tens_next (suc (suc (suc (suc n)))) h = absurd (omega arith)
 
-abbrev pub valued : Scan → ℕ → ℕ → Scan
-valued c at value = record { ok = true; at = at; earlier = c.earlier; latest = value }
+-- What was read so far, with some digits left, leads to what four digits more make of c.
+pub record Reading (s : List ℕ) (c : Scan) (left : ℕ) (n : Scan) : Type 0 where
+  pub ok : n.ok ≡ true
+  pub above : 0 < n.latest
+  pub below : n.latest < tens left
+  pub leads : digits s left n ≡ digits s 4 c
 
--- The value so far, with some digits left, leads to what four digits more make of c.
-abbrev pub Reading : List ℕ → Scan → ℕ → ℕ → ℕ → Type 0
-Reading s c left at value = (left ≤ 4) × (0 < value) × (value < tens left) × (digits s left (valued c at value) ≡ digits s 4 c)
-
-pub reading_start : (s : List ℕ) (c : Scan) → c.ok ≡ true → 0 < c.latest → c.latest < 10 → Reading s c 4 c.at c.latest
+pub reading_start : (s : List ℕ) (c : Scan) → c.ok ≡ true → 0 < c.latest → c.latest < 10 → Reading s c 4 c
 unfolding tens
-reading_start s c o l m = (omega arith, l, m, ap (digits s 4) (go c.ok o))
-  where
-    go : (ok : Bool) → ok ≡ true → ◌≡◌ {A = Scan} (valued c c.at c.latest) (record { ok = ok; at = c.at; earlier = c.earlier; latest = c.latest })
-    go true e = refl
-    go false e = never e
+reading_start s c o l m = record { ok = o; above = l; below = m; leads = refl }
 
--- what the loop's test tells
-pub reading_fits : (s : List ℕ) (c : Scan) (left at value x : ℕ) (d : Bool) → Reading s c left at value → x ≡ get_or s at 0 → d ≡ is_digit x
-    → (ltb 0 left && d) ≡ true → (0 < left) × (at < length s) × (48 ≤ x) × (x ≤ 57) × (value < 10000)
-unfolding tens
-reading_fits s c left at value x d r e f h = go left r (ltb-true 0 left t.0)
-  where
-    t : (ltb 0 left ≡ true) × (d ≡ true)
-    t = both (ltb 0 left) d h
-
-    g : (48 ≤ x) × (x ≤ 57)
-    g = digit_range x (sym f ∙ t.1)
-
-    go : (n : ℕ) → Reading s c n at value → 0 < n → (0 < n) × (at < length s) × (48 ≤ x) × (x ≤ 57) × (value < 10000)
-    go zero r l = absurd (omega arith)
-    go (suc n) r l = (l, digit_within s at x e (sym f ∙ t.1), g.0, g.1, omega (arith, tens_next n (omega arith)))
+-- with a digit left the value is small
+pub reading_small : (s : List ℕ) (c : Scan) (i : ℕ) (n : Scan) → Reading s c (4 - i) n → i < 4 → n.latest < 10000
+reading_small s c i n r h =
+    let z : 4 - i ≡ suc (3 - i) = omega arith in
+    omega (arith, tens_next (3 - i) (omega arith), rw z at r.below)
 
 -- a digit more
-reading_step : (s : List ℕ) (c : Scan) (n at value x : ℕ) → Reading s c (suc n) at value → x ≡ get_or s at 0 → is_digit x ≡ true
-    → Reading s c n (at + 1) (10 * value + (x - 48))
+reading_step : (s : List ℕ) (c : Scan) (m : ℕ) (n : Scan) (d : ℕ) → Reading s c (suc m) n → m < 4 → d ≡ digit_at s n.at → d < 10
+    → Reading s c m (record { ok = n.ok; at = n.at + 1; earlier = n.earlier; latest = 10 * n.latest + d })
 unfolding digits
-reading_step s c n at value x (k, p, b, q) e h =
-    let t = tens_next n (omega arith) in
-    let g = digit_range x h in
-    (omega arith, omega arith, omega arith, rw (next_yes s (valued c at value) x refl e h p (omega arith)) at q)
+reading_step s c m n d r h e l =
+    let t = tens_next m h in
+    let b = r.below in
+    let a = r.above in
+    record {
+      ok = r.ok;
+      above = omega arith;
+      below = omega arith;
+      leads = rw (next_yes s n d r.ok e l a (omega arith)) at r.leads;
+    }
 
-pub reading_next : (s : List ℕ) (c : Scan) (left at value x : ℕ) (d : Bool) → Reading s c left at value → x ≡ get_or s at 0 → d ≡ is_digit x
-    → (ltb 0 left && d) ≡ true → Reading s c (left - 1) (at + 1) (10 * value + (x - 48))
-reading_next s c left at value x d r e f h =
-    let t = both (ltb 0 left) d h in
-    let z : left ≡ suc (left - 1) = omega (arith, ltb-true 0 left t.0) in
-    reading_step s c (left - 1) at value x (rw z at r) e (sym f ∙ t.1)
+pub reading_next : (s : List ℕ) (c : Scan) (i : ℕ) (n : Scan) (d : ℕ) → Reading s c (4 - i) n → i < 4 → d ≡ digit_at s n.at → d < 10
+    → Reading s c (4 - (i + 1)) (record { ok = n.ok; at = n.at + 1; earlier = n.earlier; latest = 10 * n.latest + d })
+reading_next s c i n d r h e l =
+    let z : 4 - i ≡ suc (3 - i) = omega arith in
+    let y : 4 - (i + 1) ≡ 3 - i = omega arith in
+    rw y (reading_step s c (3 - i) n d (rw z at r) (omega arith) e l)
 
 -- no digit more
-pub reading_end : (s : List ℕ) (c : Scan) (left at value x : ℕ) (d : Bool) → Reading s c left at value → x ≡ get_or s at 0 → d ≡ is_digit x
-    → (ltb 0 left && d) ≡ false → ◌≡◌ {A = Scan} (valued c at value) (next_digit s (next_digit s (next_digit s (next_digit s c))))
+pub reading_end : (s : List ℕ) (c : Scan) (left : ℕ) (n : Scan) → Reading s c left n → (left ≡ 0) ⊎ (10 ≡ digit_at s n.at)
+    → n ≡ next_digit s (next_digit s (next_digit s (next_digit s c)))
 unfolding digits
-reading_end s c zero at value x d (k, p, b, q) e f h = q
-reading_end s c (suc n) at value x d (k, p, b, q) e f h =
-    sym (digits_same s (suc n) (valued c at value) (next_none s (valued c at value) x e (sym f ∙ rw (lt-ltb 0 (suc n) (omega arith)) at h))) ∙ q
+reading_end s c left n r (inl z) = rw z at r.leads
+reading_end s c left n r (inr e) = sym (digits_same s left n (next_none s n e)) ∙ r.leads
 
 -- ---- the number
 
@@ -192,6 +156,10 @@ pub number_more : (s : List ℕ) (c n r : Scan) → n ≡ first_digit s c → r 
 unfolding read_number
 number_more s c n r e q = cc
 
-pub number_short : (s : List ℕ) (c n : Scan) → n ≡ first_digit s c → (n.ok && ltb 0 n.latest) ≡ false → n ≡ read_number s c
+pub number_short : (s : List ℕ) (c n : Scan) → n ≡ first_digit s c → (n.ok ≡ false) ⊎ (n.latest ≡ 0) → n ≡ read_number s c
 unfolding digits
-number_short s c n e h = number_more s c n n e (sym (digits_same s 4 n (next_zero s n h)))
+number_short s c n e h = number_more s c n n e (sym (digits_same s 4 n (next_zero s n (short h))))
+  where
+    short : (n.ok ≡ false) ⊎ (n.latest ≡ 0) → (n.ok && ltb 0 n.latest) ≡ false
+    short (inl o) = rw o
+    short (inr z) = rw (z, and_no n.ok)

@@ -1,14 +1,14 @@
 -- Laws of reading texts: Scan.antt. Assumes nothing.
-use mathlib.Core.Path.{◌≡◌, refl, ap, ap₂, sym, ◌∙◌}
+use mathlib.Core.Path.{◌≡◌, refl, ap, sym, ◌∙◌}
 use mathlib.Core.Bool.{Bool, true, false, cond, not, ◌&&◌}
 use mathlib.Core.List.{List}
+use mathlib.Core.Logic.{◌⊎◌, inl, inr}
 use Prim.Native.Nat.{ℕ, zero, suc, ◌+◌, ◌<◌, ◌≤◌}
-use native.Mathlib.Numerals.{add-one}
 use native.Mathlib.Omega.{arith}
 use lib.ListN.{length, get_or}
 use lib.Dec.{ltb, leb, eqb}
-use borrow.Author.Tests.{ltb-true, ltb-false, leb-true, le-leb, lt-leb, ne_eqb}
-use Rattle.scan.specs.Scan.{all_below, same_bytes, stands, failed, read_text}
+use borrow.Author.Tests.{ltb-true, ltb-false, leb-true, lt-leb, ne_eqb}
+use Rattle.scan.specs.Scan.{all_below, stands, failed, read_text}
 use Rattle.scan.specs.declared.Scan.{Scan}
 use Rattle.scan.proofs.Laws.{both, never}
 
@@ -27,10 +27,6 @@ pub not_no : (a : Bool) → not a ≡ false → a ≡ true
 not_no true e = refl
 not_no false e = never (sym e)
 
-pub all_more : (f : ℕ → Bool) (n : ℕ) → true ≡ all_below f n → f n ≡ true → true ≡ all_below f (n + 1)
-unfolding all_below
-all_more f n p q = rw add-one (ap₂ ◌&&◌ p (sym q))
-
 -- one that fails is enough
 pub all_broken : (f : ℕ → Bool) (i n : ℕ) → f i ≡ false → i < n → all_below f n ≡ false
 unfolding all_below
@@ -47,10 +43,6 @@ pub stands_past : (s t : List ℕ) (at : ℕ) → length s < at + length t → f
 unfolding stands
 stands_past s t at h = rw (lt-leb _ _ h)
 
-pub stands_fits : (s t : List ℕ) (at : ℕ) (r : Bool) → at + length t ≤ length s → r ≡ same_bytes s at t → r ≡ stands s at t
-unfolding stands
-stands_fits s t at r h e = rw (le-leb _ _ h) e
-
 -- what stands somewhere does not run past the end
 pub stands_in : (s t : List ℕ) (at : ℕ) → stands s at t ≡ true → at + length t ≤ length s
 unfolding stands
@@ -66,26 +58,15 @@ stands_not s t at i place e h n =
     ∙ and_no (leb (at + length t) (length s))
 
 -- `read_text`, each way
-pub text_stop : (s t : List ℕ) (c : Scan) → not c.ok ≡ true → c ≡ read_text s t c
+pub text_yes : (s t : List ℕ) (c : Scan) → c.ok ≡ true → true ≡ stands s c.at t
+    → ◌≡◌ {A = Scan} (record { ok = c.ok; at = c.at + length t; earlier = c.earlier; latest = c.latest }) (read_text s t c)
 unfolding read_text
-text_stop s t c h = go c.ok h
-  where
-    go : (ok : Bool) → not ok ≡ true → ◌≡◌ {A = Scan} (record { ok = ok; at = c.at; earlier = c.earlier; latest = c.latest })
-        (read_text s t (record { ok = ok; at = c.at; earlier = c.earlier; latest = c.latest }))
-    go true e = never e
-    go false e = refl
+text_yes s t c o e = rw (o, ← e)
 
-pub text_yes : (s t : List ℕ) (c : Scan) (b : Bool) → b ≡ stands s c.at t → not c.ok ≡ false → b ≡ true
-    → ◌≡◌ {A = Scan} (record { ok = true; at = c.at + length t; earlier = c.earlier; latest = c.latest }) (read_text s t c)
+pub text_no : (s t : List ℕ) (c r : Scan) → r ≡ failed c → (c.ok ≡ false) ⊎ (false ≡ stands s c.at t) → r ≡ read_text s t c
 unfolding read_text
-text_yes s t c b e o h = rw (not_no c.ok o, ← e, h)
-
-pub text_no : (s t : List ℕ) (c r : Scan) (b : Bool) → b ≡ stands s c.at t → b ≡ false → r ≡ failed c → r ≡ read_text s t c
-unfolding read_text
-text_no s t c r b e h q = rw (← e, h, and_no _) q
-
-pub text_fits : (s t : List ℕ) (at : ℕ) (b : Bool) → b ≡ stands s at t → b ≡ true → at + length t ≤ length s
-text_fits s t at b e h = stands_in s t at (sym e ∙ h)
+text_no s t c r q (inl o) = rw o q
+text_no s t c r q (inr e) = rw (← e, and_no _) q
 
 -- a text that does not stand, or comes after one that does not, is not read
 pub text_off : (s t : List ℕ) (c : Scan) → (c.ok && stands s c.at t) ≡ false → (read_text s t c).ok ≡ false

@@ -8,7 +8,7 @@ use lib.ListN.{length}
 use Rattle.text.specs.Decimal.{given}
 use Rattle.text.specs.Writing.{Out, wrote}
 use Rattle.text.proofs.Laws.{wrote_append}
-use Rattle.lines.specs.declared.Line.{Line}
+use Rattle.lines.specs.Line.{Line}
 use Rattle.lines.specs.Lines.{line_at, next_of}
 use Rattle.written.proofs.LineLists.{lines_none, lines_more}
 use Rattle.yard.specs.InState.{Here}

@@ -9,9 +9,11 @@ use lib.ListN.{length, drop}
 use borrow.Author.Tests.{ltb-false, eqb-false, eq-eqb, ne_eqb}
 use Rattle.text.specs.Writing.{Out, out, wrote}
 use Rattle.text.proofs.Laws.{wrote_fits, next}
-use Rattle.lines.specs.declared.Line.{Line}
-use Rattle.lines.specs.declared.Judged.{Judged}
-use Rattle.lines.specs.declared.Line.TheVariants.{Yard, Order, Hear, Beacon, Roll, Refused}
+use Rattle.lines.specs.Line.{Line}
+use Rattle.std.specs.Prelude.{Result, Ok}
+use Rattle.lines.specs.declared.BadLine.{BadLine}
+use Rattle.lines.specs.Judged.{Judged, judged_answer}
+use Rattle.lines.specs.Line.{Yard, Order, Hear, Beacon, Roll, Refused}
 use Rattle.lines.specs.Lines.{line_at, number_of, next_of, lines_of, judged_lines, judged}
 use Rattle.reader.proofs.LinesLaws.{line_above}
 use Rattle.state.specs.Yards.{fresh_yard, yard_refusal}
@@ -45,6 +47,13 @@ judged_fits s h = go (ltb 48000 (length s)) refl (eqb (length s) 0) refl h
     go true e t f q = absurd (omega arith)
     go false e true f q = absurd (omega arith)
     go false e false f q = (omega (arith, eqb-false (length s) 0 f), ltb-false 48000 (length s) e)
+
+-- a script that the judge lets pass
+pub passed : (r : Result ℕ BadLine) (n : ℕ) → r ≡ Ok n → (judged_answer r).number ≡ 0
+passed r n e = rw e
+
+pub passed_good : (s : List ℕ) (r : Result ℕ BadLine) (n : ℕ) → judged_answer r ≡ judged s → r ≡ Ok n → (judged s).number ≡ 0
+passed_good s r n e h = rw (← e) (passed r n h)
 
 -- so its line 2 is not at the start
 pub second_line : (s : List ℕ) (l : Line) (from : ℕ) → (judged s).number ≡ 0 → l ≡ line_at s 0 → from ≡ next_of s l

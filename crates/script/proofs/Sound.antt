@@ -2,7 +2,7 @@
 use mathlib.Core.Path.{◌≡◌, refl, ap, ◌∙◌}
 use mathlib.Core.List.{List, [], ◌∷◌}
 use Prim.Native.Nat.{ℕ, ◌+◌}
-use Rattle.lines.specs.declared.Line.{Line}
+use Rattle.lines.specs.Line.{Line}
 use Rattle.yard.specs.Worlds.{World}
 use Rattle.state.specs.States.{whole}
 use Rattle.yard.specs.InState.{Here}

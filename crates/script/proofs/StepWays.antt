@@ -3,20 +3,45 @@ use mathlib.Core.Path.{◌≡◌, refl, ap}
 use mathlib.Core.List.{List}
 use Prim.Native.Nat.{ℕ, ◌%◌}
 use Rattle.steps.specs.Answers.{order_number, hear_number, beacon_number}
-use Rattle.steps.specs.declared.OrderAnswer as orders
-use Rattle.steps.specs.declared.HearAnswer as hearings
-use Rattle.steps.specs.declared.BeaconAnswer as beaconing
+use Rattle.steps.specs.OrderAnswer as orders
+use Rattle.steps.specs.HearAnswer as hearings
+use Rattle.steps.specs.BeaconAnswer as beaconing
 use Rattle.told.specs.Told.{order_told, hear_told, beacon_told}
-use Rattle.lines.specs.declared.Line.{Line}
-use Rattle.lines.specs.declared.Line.TheVariants.{Yard, Order, Hear, Beacon, Roll, Refused}
+use Rattle.std.specs.Prelude.{Result, Ok, Err}
+use Rattle.refusal.specs.declared.Refusal.{Refusal}
+use Rattle.refusal.specs.Numbers.{refused_with}
+use Rattle.steps.specs.declared.Sent.{Sent}
+use Rattle.steps.specs.declared.Hearing as heard
+use Rattle.lines.specs.declared.Line as reads
+use Rattle.lines.specs.Line.{line_answer, Line, Order, Hear, Beacon, Roll}
 use Rattle.state.specs.States.{held_in}
 use Rattle.yard.specs.InState.{After, after, orders_in, hears_in, beacons_in, here_in, single_in}
-use Rattle.roll.specs.declared.RollAnswer as calling
+use Rattle.roll.specs.RollAnswer as calling
 use Rattle.roll.specs.Answers.{roll_number}
 use Rattle.roll.specs.Calls.{calls_in, answers_in, step_in}
 use Rattle.meaning.specs.Script.{step_of}
-use Rattle.script.specs.Told.{roll_told, no_step}
+use Rattle.script.specs.Told.{roll_told}
 use Rattle.script.specs.OnState.{run_in, refusal_in, told_in}
+
+-- a line that was read, and what it is
+pub read_as : (l : Result reads.Line Refusal) (x y : reads.Line) → l ≡ Ok x → x ≡ y → line_answer l ≡ line_answer (Ok y)
+read_as l x y e f = rw (e, f)
+
+-- the number that a result was refused with is its answer's
+pub order_same : (r : Result Sent Refusal) → refused_with r ≡ order_number (orders.order_answer r)
+order_same (Ok sent) = refl
+order_same (Err refusal) = refl
+
+pub hear_same : (r : Result heard.Hearing Refusal) → refused_with r ≡ hear_number (hearings.hear_answer r)
+hear_same (Ok (heard.TheVariants.Taken count)) = refl
+hear_same (Ok (heard.TheVariants.Again count)) = refl
+hear_same (Ok (heard.TheVariants.Early count)) = refl
+hear_same (Ok (heard.TheVariants.Beacon count)) = refl
+hear_same (Err refusal) = refl
+
+pub beacon_same : {A : Type 0} (r : Result A Refusal) → refused_with r ≡ beacon_number (beaconing.beacon_answer r)
+beacon_same (Ok _) = refl
+beacon_same (Err refusal) = refl
 
 -- what a line's step tells and leaves
 abbrev pub LineRan : List ℕ → List ℕ → List ℕ → List ℕ → Line → ℕ → Type 0
@@ -55,13 +80,3 @@ module _ (state air state' air' : List ℕ) where
   roll_ran next t a l el e et en =
       let h : a ≡ (calls_in (held_in state) air).answer = ap (λ s. s.answer) e in
       rw el (rw h at et, (rw h at en, here_of a e))
-
--- a line that asks for no step
-pub yard_ran : (state air : List ℕ) (posts sources dests next t : ℕ) (l : Line) → l ≡ Yard posts sources dests next → t ≡ no_step → t % 256 ≡ 0
-    → LineRan state air state air l t
-unfolding run_in
-yard_ran state air posts sources dests next t l el et en = rw el (et, (en, refl))
-
-pub refused_ran : (state air : List ℕ) (number t : ℕ) (l : Line) → l ≡ Refused number → t ≡ no_step → t % 256 ≡ 0 → LineRan state air state air l t
-unfolding run_in
-refused_ran state air number t l el et en = rw el (et, (en, refl))

@@ -1,8 +1,7 @@
 -- A script's lines run on a state, any cells and any air: what each line answers, and what they leave. Assumes nothing.
 use Rattle.std.specs.Prelude.{ℕ, ◌+◌, not, List, [], ◌∷◌, ◌++◌, eqb, length}
 use Rattle.text.specs.Decimal.{given}
-use Rattle.lines.specs.declared.Line.{Line}
-use Rattle.lines.specs.declared.Line.TheVariants.{Yard, Order, Hear, Beacon, Roll, Refused}
+use Rattle.lines.specs.Line.{Line, Yard, Order, Hear, Beacon, Roll, Refused}
 use Rattle.lines.specs.Lines.{line_at, lines_from}
 use Rattle.state.specs.States.{Held, whole, other}
 use Rattle.state.specs.Fresh.{nothing_known}

@@ -1,18 +1,18 @@
 -- The answer of a script's last line as one number: told of `told`, for a roll call, for no step, and for what runs nothing. Assumes nothing.
 use Rattle.std.specs.Prelude.{ℕ, ◌%◌, List, [], ◌∷◌}
 use Rattle.told.specs.Told.{told, order_told, hear_told, beacon_told}
-use Rattle.roll.specs.declared.RollAnswer as calling
+use Rattle.roll.specs.RollAnswer as calling
 use Rattle.roll.specs.Answers.{roll_number}
 use Rattle.roll.specs.Values.{roll_count}
 use Rattle.roll.specs.Runs.{Step, Answer, ordered, heard, beaconed, called, answer, run}
 use Rattle.yard.specs.Worlds.{World}
-use Rattle.lines.specs.declared.Line.{Line}
+use Rattle.lines.specs.Line.{Line}
 use Rattle.meaning.specs.Script.{step_of}
 
 -- code 8, a roll call that ran, with the number of its single steps (in a yard at most 960); 0, refused
 abbrev pub roll_code : calling.RollAnswer → ℕ
-roll_code (calling.TheVariants.Called count) = 8
-roll_code (calling.TheVariants.Refused number) = 0
+roll_code (calling.Called count) = 8
+roll_code (calling.Refused number) = 0
 
 abbrev pub roll_told : calling.RollAnswer → ℕ
 roll_told a = told (roll_number a) (roll_code a) 0 0 0 (roll_count a % 65536)

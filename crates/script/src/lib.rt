@@ -6,7 +6,7 @@ mod line_steps;
 mod posts;
 
 ghost use Rattle.std.specs.Prelude.{◌≡◌, ◌≤◌, length};
-ghost use Rattle.text.specs.Writing.{out, wrote};
+ghost use Rattle.text.specs.Writing.{out, wrote, Wrote};
 ghost use Rattle.lines.specs.Lines.{judged};
 ghost use Rattle.state.specs.States.{held_in};
 ghost use Rattle.yard.specs.InState.{here_in};
@@ -16,6 +16,8 @@ ghost use Rattle.script.specs.Told.{no_step};
 ghost use Rattle.script.specs.State.{state_told, state_held, state_air};
 ghost use Rattle.script.specs.OnState.{rest, here_after, refused_in, last_in, script_here};
 
+use text::Writer;
+
 // The lanes that have a post, the sources and the destinations among them.
 #[derive(Clone, Copy)]
 pub(crate) struct Sets {
@@ -24,15 +26,11 @@ pub(crate) struct Sets {
     pub dests: u8,
 }
 
-// The position in the output after the lines run so far, and the answer of the last one.
-#[derive(Clone, Copy)]
-struct Ran {
-    pub to: usize,
-    pub answer: u64,
-}
-
 // Bytes of the output: every printout fits.
 pub const OUTPUT: usize = 131072;
+
+// The cells of a state, whose number has been judged.
+type Cells = [u16; state::LENGTH];
 
 // What a state holds before a fresh yard is laid into every cell of it. A number of two equal bytes would cost a call of memset.
 const UNWRITTEN: u16 = 1;
@@ -47,9 +45,10 @@ pub fn drift_run_script(script: &[u8], air: &mut [u8], output: &mut [u8]) -> usi
     if output.len() != OUTPUT {
         return 0;
     }
-    let verdict = reader::judge(script);
-    if verdict.number != 0 {
-        return printout::put_bad(output, 0, verdict.line, verdict.number);
+    if let Err(bad) = reader::judge(script) {
+        let mut printed = Writer::new(output);
+        printout::put_bad(&mut printed, bad.line, u8::from(bad.refusal));
+        return printed.at();
     }
     let mut state = [UNWRITTEN; state::LENGTH];
     print_good(script, &mut state, air, output)
@@ -62,38 +61,38 @@ pub fn drift_script_state(script: &[u8], air: &mut [u8], state: &mut [u16]) -> u
     ensures held { held_in state.new ≡ state_held script.now air.old state.old }
     ensures bytes { air.new ≡ state_air script.now air.old state.old }
 {
-    if state.len() != state::LENGTH {
+    let Some(state) = state.as_mut_array::<{ state::LENGTH }>() else {
         return told::told(12, 10, 0, 0, 0, 0);
+    };
+    if let Err(bad) = reader::judge(script) {
+        return told::told(u8::from(bad.refusal), 9, 0, 0, 0, bad.line);
     }
-    let verdict = reader::judge(script);
-    if verdict.number != 0 {
-        return told::told(verdict.number, 9, 0, 0, 0, verdict.line);
-    }
-    let mut nowhere = [0u8; 1];
-    let ran = run_good(script, state, air, &mut nowhere[..0]);
-    ran.answer
+    run_good(script, state, air, &mut Writer::new(&mut []))
 }
 
 // Runs a script that is not refused, then prints the posts.
-fn print_good(script: &[u8], state: &mut [u16], air: &mut [u8], output: &mut [u8]) -> usize
-    requires { ((judged script.now).number ≡ 0) × (length state.old ≡ 4483) }
+fn print_good(script: &[u8], state: &mut Cells, air: &mut [u8], output: &mut [u8]) -> usize
+    requires { (judged script.now).number ≡ 0 }
     ensures result_after { out output.new result ≡ wrote (out output.old 0) (script_text script.now air.old) }
     ensures bytes { air.new ≡ (script_world script.now air.old).air }
 {
-    let ran = run_good(script, state, air, output);
-    posts::put_posts(output, ran.to, state)
+    let mut printed = Writer::new(output);
+    run_good(script, state, air, &mut printed);
+    posts::put_posts(&mut printed, state);
+    printed.at()
 }
 
 // Runs a script that is not refused: line 1 makes the yard, the lines after it are its steps; each refused one is printed.
-fn run_good(script: &[u8], state: &mut [u16], air: &mut [u8], output: &mut [u8]) -> Ran
-    requires { ((judged script.now).number ≡ 0) × (length state.old ≡ 4483) }
+fn run_good(script: &[u8], state: &mut Cells, air: &mut [u8], output: &mut Writer<'_>) -> u64
+    requires { (judged script.now).number ≡ 0 }
     ensures air_after { here_in state.new air.new ≡ here_after (script_here script.now air.old) (step_lines script.now) }
-    ensures printed { out output.new result.to ≡ wrote (out output.old 0) (refused_in (script_here script.now air.old) 1 (step_lines script.now)) }
-    ensures answer { result.answer ≡ last_in (script_here script.now air.old) no_step (step_lines script.now) }
+    ensures printed { Wrote output.old output.new (refused_in (script_here script.now air.old) 1 (step_lines script.now)) }
+    ensures answer { result ≡ last_in (script_here script.now air.old) no_step (step_lines script.now) }
 {
     let first_line = reader::read_line(script, 0);
     let s = line_steps::sets_of(first_line);
-    state::fresh(state, s.present, s.sources, s.dests);
+    // An accepted line 1 is not refused here.
+    let _ = state::fresh(state, s.present, s.sources, s.dests);
     let from = lines::next_of(script, first_line);
     run_lines(script, state, air, output, from)
 }
@@ -103,27 +102,23 @@ fn run_lines(
     script: &[u8],
     state: &mut [u16],
     air: &mut [u8],
-    output: &mut [u8],
+    output: &mut Writer<'_>,
     from: usize,
-) -> Ran
+) -> u64
     requires { (length script.now ≤ 48000) × (1 ≤ from) }
     ensures air_after { here_in state.new air.new ≡ here_after (here_in state.old air.old) (rest script.now from) }
-    ensures printed { out output.new result.to ≡ wrote (out output.old 0) (refused_in (here_in state.old air.old) 1 (rest script.now from)) }
-    ensures answer { result.answer ≡ last_in (here_in state.old air.old) no_step (rest script.now from) }
+    ensures printed { Wrote output.old output.new (refused_in (here_in state.old air.old) 1 (rest script.now from)) }
+    ensures answer { result ≡ last_in (here_in state.old air.old) no_step (rest script.now from) }
 {
     let mut at = from;
     let mut line = 1u16;
-    let mut to = 0usize;
     let mut answer = told::told(0, 7, 0, 0, 0, 0);
     while at < script.len() {
         let l = reader::read_line(script, at);
         answer = line_steps::run_step(state, air, l);
-        line = line + 1;
-        to = line_steps::put_refusal(output, to, line, (answer % 256) as u8);
+        line += 1;
+        line_steps::put_refusal(output, line, (answer % 256) as u8);
         at = lines::next_of(script, l);
     }
-    Ran {
-        to: to,
-        answer: answer,
-    }
+    answer
 }

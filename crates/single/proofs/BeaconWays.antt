@@ -1,62 +1,65 @@
 -- The ways through `beacon`. Assumes nothing.
-use mathlib.Core.Path.{◌≡◌, refl, sym, ◌∙◌}
-use mathlib.Core.Bool.{Bool, true, false, cond}
+use mathlib.Core.Path.{◌≡◌, sym, ap, ◌∙◌}
+use mathlib.Core.Bool.{false}
 use mathlib.Core.List.{List}
 use Prim.Native.Nat.{ℕ}
-use native.Mathlib.Omega.{arith}
 use lib.Dec.{eqb}
-use lib.ListN.{length}
-use borrow.Author.Tests.{ne_eqb, eqb-true, eqb-false}
-use Rattle.frame.specs.Layout.{no_frame}
-use Rattle.frame.proofs.Laws.{not_32, is_32}
-use Rattle.air.specs.Air.{frames_with}
-use Rattle.air.proofs.Buffers.{buffer_filled, none_kept}
+use borrow.Author.Tests.{ne_eqb}
+use Rattle.std.specs.Prelude.{Result, Ok, Err, IsErrAnd}
+use Rattle.refusal.specs.declared.Refusal.{Refusal}
+use Rattle.refusal.specs.Numbers.{refusal_number, refused_with}
+use Rattle.frame.specs.declared.Frame.{Frame}
+use Rattle.frame.specs.Layout.{bytes_of}
+use Rattle.frame.specs.Refusals.{frame_refusal}
+use Rattle.refusal.proofs.Refused.{never_0}
+use Rattle.air.specs.Air.{place_refusal, frames_with}
+use Rattle.air.proofs.Buffers.{buffer_filled}
 use Rattle.post.specs.declared.Post.{Post}
 use Rattle.post.specs.Newest.{beacon_frame}
-use Rattle.judge.specs.Judgement.{bad_record, record_refusal}
+use Rattle.row.specs.Rows.{post_in}
 use Rattle.steps.specs.Refusals.{beacon_refusal}
-use Rattle.steps.specs.Steps.{beacon_step}
-use Rattle.steps.specs.declared.BeaconAnswer as beacons
-use Rattle.steps.specs.declared.Beaconed.{Beaconed}
+use Rattle.steps.specs.BeaconAnswer.{beacon_answer}
+use Rattle.steps.specs.Outcomes.{beaconed}
+use Rattle.steps.specs.Steps.{Beaconed, beacon_step}
+use Rattle.single.specs.Judged.{Judged}
 use Rattle.single.specs.Single.{beacon_refusal_singly, beacon_singly, beacon_buffer}
 use Rattle.single.proofs.Broadcasts.{beacon_sendable}
-use Rattle.single.proofs.Judged.{record_bad, record_good}
+use Rattle.single.proofs.Chains.{length_refusal, good, passed_32, takes}
 
-beacon_refuses : (p : Post) (buffer : List ℕ) (n : ℕ) → beacon_refusal_singly p buffer ≡ n → (n ≡ 0 → ⊥)
-    → (beacons.TheVariants.Refused n ≡ beacon_singly p buffer) × (buffer ≡ beacon_buffer p buffer)
+-- what `beacon` promises of its result and of the buffer, whatever way it went
+pub record Beacons {A : Type 0} (p : Post) (given : List ℕ) (r : Result A Refusal) (exit : List ℕ) : Type 0 where
+  pub value : beacon_answer r ≡ beacon_singly p given
+  pub buffer : exit ≡ beacon_buffer p given
+  pub number : refused_with r ≡ beacon_refusal_singly p given
+
+-- a refusal that a `?` hands on
+pub beacon_refused : {A : Type 0} (p : Post) (buffer : List ℕ) (r : Result A Refusal) (e : Refusal) → IsErrAnd r (λ k. k ≡ e)
+    → beacon_refusal_singly p buffer ≡ refusal_number e → Beacons p buffer r buffer
 unfolding beacon_singly beacon_buffer
-beacon_refuses p buffer n e h = (rw (e, ne_eqb n 0 h), rw (e, ne_eqb n 0 h))
+beacon_refused p buffer (Ok d) e h n = absurd h
+beacon_refused p buffer (Err k) e h n =
+    let q : eqb (refusal_number e) 0 ≡ false = ne_eqb (refusal_number e) 0 (never_0 e) in
+    rw h (record { value = rw (n, q); buffer = rw (n, q); number = sym n })
 
-pub beacon_short : (p : Post) (buffer : List ℕ) → (length buffer ≡ 32 → ⊥)
-    → (beacons.TheVariants.Refused 6 ≡ beacon_singly p buffer) × (buffer ≡ beacon_buffer p buffer)
-unfolding beacon_refusal_singly
-beacon_short p buffer h = beacon_refuses p buffer 6 (not_32 buffer (cond (bad_record p) 12 (beacon_refusal p)) h) (λ z. omega arith)
+-- the beacon of a good record
+pub record Sends (p : Post) (f : Frame) : Type 0 where
+  pub accepted : beacon_refusal p ≡ 0
+  pub beacon : f ≡ beacon_frame p
+  pub frame : frame_refusal f ≡ 0
 
-pub beacon_bad : (p : Post) (buffer : List ℕ) (n : ℕ) → length buffer ≡ 32 → n ≡ record_refusal p → (n ≡ 0 → ⊥)
-    → (beacons.TheVariants.Refused n ≡ beacon_singly p buffer) × (buffer ≡ beacon_buffer p buffer)
-unfolding beacon_refusal_singly
-beacon_bad p buffer n l e h =
-    let b = record_bad p n e h in
-    beacon_refuses p buffer n (is_32 buffer (cond (bad_record p) 12 (beacon_refusal p)) l ∙ rw b.0 (sym b.1)) h
+pub beacon_sends : (p : Post) (l : List ℕ) (f : Frame) → Judged p l → 0 ≡ beacon_refusal (post_in l) → beaconed (Ok f) ≡ beacon_step (post_in l) → Sends p f
+unfolding beacon_step
+beacon_sends p l f j z e =
+    let a : beacon_refusal p ≡ 0 = rw j.post at (sym z) in
+    let step : beaconed (Ok f) ≡ record { answer = beacon_answer (Ok f); frame = beacon_frame p } = rw (j.post, a) at e in
+    let b : f ≡ beacon_frame p = ap (λ (d : Beaconed). d.frame) step in
+    record { accepted = a; beacon = b; frame = rw b (beacon_sendable p a) }
 
-beacon_judged : (p : Post) (buffer : List ℕ) (n : ℕ) → length buffer ≡ 32 → n ≡ record_refusal p → n ≡ 0 → beacon_refusal_singly p buffer ≡ beacon_refusal p
-unfolding beacon_refusal_singly
-beacon_judged p buffer n l e z = is_32 buffer (cond (bad_record p) 12 (beacon_refusal p)) l ∙ rw (record_good p n e z)
-
--- the step runs, and the beacon goes into the buffer
-pub beacon_sends : (p : Post) (buffer : List ℕ) (n : ℕ) (d : Beaconed) (exit : List ℕ) → length buffer ≡ 32 → n ≡ record_refusal p → n ≡ 0
-    → d ≡ beacon_step p → exit ≡ frames_with buffer 0 d.frame
-    → (d.answer ≡ beacon_singly p buffer) × (exit ≡ beacon_buffer p buffer)
-unfolding beacon_singly beacon_buffer beacon_step
-beacon_sends p buffer n d exit l e z ed ex = go (eqb (beacon_refusal p) 0) refl
-  where
-    go : (b : Bool) → eqb (beacon_refusal p) 0 ≡ b → (d.answer ≡ beacon_singly p buffer) × (exit ≡ beacon_buffer p buffer)
-    go true b =
-        let o : beacon_refusal p ≡ 0 = eqb-true (beacon_refusal p) 0 b in
-        let r : beacon_refusal_singly p buffer ≡ 0 = beacon_judged p buffer n l e z ∙ o in
-        let s : d ≡ record { answer = beacons.TheVariants.Sent; frame = beacon_frame p } = ed ∙ rw b in
-        (rw (r, s), rw r (ex ∙ rw s (buffer_filled buffer (beacon_frame p) l (beacon_sendable p o))))
-    go false b =
-        let s : d ≡ record { answer = beacons.TheVariants.Refused (beacon_refusal p); frame = no_frame } = ed ∙ rw b in
-        let r = beacon_refuses p buffer (beacon_refusal p) (beacon_judged p buffer n l e z) (eqb-false (beacon_refusal p) 0 b) in
-        (rw s r.0, ex ∙ rw s (none_kept buffer 0 no_frame refl) ∙ r.1)
+-- it goes into the buffer
+pub beacon_done : {A : Type 0} (p : Post) (buffer l : List ℕ) (f : Frame) (r : Result A Refusal) (exit : List ℕ) → 0 ≡ length_refusal buffer → Judged p l
+    → Sends p f → refused_with r ≡ place_refusal buffer 0 f → exit ≡ frames_with buffer 0 f → Beacons p buffer r exit
+unfolding beacon_singly beacon_buffer beacon_refusal_singly
+beacon_done p buffer l f (Err k) exit h j s n ex = absurd (never_0 k (n ∙ takes buffer f h s.frame))
+beacon_done p buffer l f (Ok d) exit h j s n ex =
+    let z : beacon_refusal_singly p buffer ≡ 0 = good p buffer (beacon_refusal p) 0 h j.good (sym s.accepted) in
+    record { value = rw z; buffer = rw z (ex ∙ buffer_filled buffer f (passed_32 buffer h) s.frame ∙ ap bytes_of s.beacon); number = sym z }

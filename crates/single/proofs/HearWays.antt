@@ -1,119 +1,177 @@
 -- The ways through `hear`. Assumes nothing.
 use mathlib.Core.Path.{◌≡◌, refl, sym, ap, ◌∙◌}
-use mathlib.Core.Bool.{Bool, true, false, cond, ◌&&◌}
+use mathlib.Core.Bool.{Bool, true, false, cond}
 use mathlib.Core.List.{List}
 use Prim.Native.Nat.{ℕ}
 use native.Mathlib.Omega.{arith}
 use lib.Dec.{eqb}
 use lib.ListN.{length}
-use borrow.Author.Tests.{eq-eqb, ne_eqb, eqb-true}
+use borrow.Author.Tests.{ne_eqb}
+use Rattle.std.specs.Prelude.{is_some, Result, Ok, Err, IsErrAnd, Option, Some, None}
+use Rattle.refusal.specs.declared.Refusal.{Refusal}
+use Rattle.refusal.specs.Numbers.{refusal_number, refused_with}
 use Rattle.frame.specs.declared.Frame.{Frame}
-use Rattle.frame.specs.declared.FrameRead.{FrameRead}
+use Rattle.frame.specs.FrameRead.{FrameRead, read_answer, refused_read}
 use Rattle.frame.specs.Layout.{frame_of, bytes_of, no_frame}
-use Rattle.frame.specs.Refusals.{read_refusal, frame_refusal}
+use Rattle.frame.specs.Refusals.{bad_length, read_refusal, frame_refusal}
 use Rattle.frame.specs.ReadWrite.{read_of}
-use Rattle.frame.proofs.Laws.{not_32, is_32, readable}
+use Rattle.frame.specs.Types.{AreBytes}
+use Rattle.frame.proofs.Laws.{readable}
+use Rattle.refusal.proofs.Refused.{never_0}
 use Rattle.air.specs.Air.{frames_with}
 use Rattle.air.proofs.Buffers.{buffer_filled, none_kept}
 use Rattle.post.specs.declared.Post.{Post}
 use Rattle.post.specs.Record.{last_of}
+use Rattle.row.specs.Rows.{post_in, known_in}
+use Rattle.post_row.specs.Records.{record_in}
 use Rattle.judge.specs.Judgement.{bad_record, record_refusal}
+use Rattle.steps.specs.declared.RowHeard as row
+use Rattle.steps.specs.declared.Hearing as said
 use Rattle.steps.specs.Refusals.{is_next, hear_refusal}
+use Rattle.steps.specs.HearAnswer.{hear_answer}
+use Rattle.steps.specs.Answers.{hear_number}
+use Rattle.steps.specs.Values.{hear_count}
+use Rattle.steps.specs.Outcomes.{frame_or_none}
 use Rattle.steps.specs.Steps.{hear_taken, hear_other, hear_step}
-use Rattle.steps.specs.declared.HearAnswer as hearings
-use Rattle.steps.specs.Steps as heard
-use Rattle.single.specs.Single.{hear_refusal_singly, hear_singly, hear_buffer}
+use Rattle.steps.specs.Steps as after
+use Rattle.steps.specs.Knowing.{stepped, hears_by}
+use Rattle.laws.specs.Records.{Shaped}
+use Rattle.laws.proofs.StepLaws.{hear_judged}
+use Rattle.single.specs.Judged.{Judged}
+use Rattle.single.specs.Outcomes.{heard_answer}
+use Rattle.single.specs.Single.{hear_refusal_singly, hear_singly, hear_count_singly, hear_buffer}
 use Rattle.single.specs.declared.Heard.{Heard}
 use Rattle.single.proofs.Broadcasts.{taken_accepted}
-use Rattle.single.proofs.Judged.{record_bad, record_good}
+use Rattle.single.proofs.Chains.{length_refusal, refuses, passes, passed_32}
+use Rattle.single.proofs.Lasting.{bytes_fit}
+use Rattle.single.proofs.Numbers.{hear_tells}
+use Rattle.single.proofs.Rows.{stored, hear_runs}
 
--- what an entry of `hear` promises of its result and of the buffer
-abbrev pub HearIs : Post → List ℕ → List ℕ → Heard → List ℕ → Type 0
-HearIs p bytes buffer r exit = (r ≡ hear_singly p bytes buffer) × (exit ≡ hear_buffer p bytes buffer)
+-- what `hear` promises of its result and of the buffer, whatever way it went
+pub record Hears (p : Post) (bytes given : List ℕ) (r : Result Heard Refusal) (exit : List ℕ) : Type 0 where
+  pub value : heard_answer p r ≡ hear_singly p bytes given
+  pub buffer : exit ≡ hear_buffer p bytes given
+  pub number : refused_with r ≡ hear_refusal_singly p bytes given
+  pub count : hear_count (heard_answer p r).answer ≡ hear_count_singly p bytes given
 
-hear_refuses : (p : Post) (bytes buffer : List ℕ) (n : ℕ) → hear_refusal_singly p bytes buffer ≡ n → (n ≡ 0 → ⊥)
-    → HearIs p bytes buffer (record { answer = hearings.TheVariants.Refused n; post = p }) buffer
+number_is : (p : Post) (r : Result Heard Refusal) → refused_with r ≡ hear_number (heard_answer p r).answer
+number_is p (Ok d) = passed d.hearing
+  where
+    passed : (h : said.Hearing) → ◌≡◌ {A = ℕ} 0 (hear_number (hear_answer (Ok h)))
+    passed (said.TheVariants.Taken n) = refl
+    passed (said.TheVariants.Again n) = refl
+    passed (said.TheVariants.Early n) = refl
+    passed (said.TheVariants.Beacon n) = refl
+number_is p (Err e) = refl
+
+hears : (p : Post) (bytes buffer : List ℕ) (r : Result Heard Refusal) (exit : List ℕ) → heard_answer p r ≡ hear_singly p bytes buffer
+    → exit ≡ hear_buffer p bytes buffer → Hears p bytes buffer r exit
+hears p bytes buffer r exit v b =
+    let t = hear_tells p bytes buffer (heard_answer p r) v in
+    record { value = v; buffer = b; number = number_is p r ∙ t.0; count = t.1 }
+
+-- a refusal that a `?` hands on
+pub hear_refused : (p : Post) (bytes buffer : List ℕ) (r : Result Heard Refusal) (e : Refusal) → IsErrAnd r (λ k. k ≡ e)
+    → hear_refusal_singly p bytes buffer ≡ refusal_number e → Hears p bytes buffer r buffer
 unfolding hear_singly hear_buffer
-hear_refuses p bytes buffer n e h = (rw (e, ne_eqb n 0 h), rw (e, ne_eqb n 0 h))
+hear_refused p bytes buffer (Ok d) e h n = absurd h
+hear_refused p bytes buffer (Err k) e h n =
+    let q : eqb (refusal_number e) 0 ≡ false = ne_eqb (refusal_number e) 0 (never_0 e) in
+    rw h (hears p bytes buffer (Err e) buffer (rw (n, q)) (rw (n, q)))
 
--- what comes after the buffer's length
-abbrev after6 : Post → List ℕ → ℕ
-after6 p bytes = cond (eqb (read_refusal bytes) 0) (cond (bad_record p) 12 (hear_refusal p (frame_of bytes))) (read_refusal bytes)
-
-pub hear_short : (p : Post) (bytes buffer : List ℕ) → (length buffer ≡ 32 → ⊥)
-    → HearIs p bytes buffer (record { answer = hearings.TheVariants.Refused 6; post = p }) buffer
+-- 6 of the buffer
+pub hear_short : (p : Post) (bytes buffer : List ℕ) (e : Refusal) → refusal_number e ≡ length_refusal buffer
+    → hear_refusal_singly p bytes buffer ≡ refusal_number e
 unfolding hear_refusal_singly
-hear_short p bytes buffer h = hear_refuses p bytes buffer 6 (not_32 buffer (after6 p bytes) h) (λ z. omega arith)
+hear_short p bytes buffer e h = refuses (bad_length buffer) 6 _ e h
 
-pub hear_unread : (p : Post) (bytes buffer : List ℕ) (got : FrameRead) → length buffer ≡ 32 → got ≡ read_of bytes → (got.refusal ≡ 0 → ⊥)
-    → HearIs p bytes buffer (record { answer = hearings.TheVariants.Refused got.refusal; post = p }) buffer
+-- 6 to 11 of the frame
+pub hear_unread : (p : Post) (bytes buffer : List ℕ) (e : Refusal) → 0 ≡ length_refusal buffer → refused_read (refusal_number e) ≡ read_of bytes
+    → hear_refusal_singly p bytes buffer ≡ refusal_number e
 unfolding hear_refusal_singly read_of
-hear_unread p bytes buffer got l e h =
-    let n : got.refusal ≡ read_refusal bytes = ap (λ (g : FrameRead). g.refusal) e in
-    hear_refuses p bytes buffer got.refusal
-    (is_32 buffer (after6 p bytes) l ∙ rw (ne_eqb (read_refusal bytes) 0 (λ z. h (n ∙ z))) (sym n)) h
+hear_unread p bytes buffer e l h =
+    let n : refusal_number e ≡ read_refusal bytes = ap (λ (g : FrameRead). g.refusal) h in
+    passes (bad_length buffer) 6 _ (omega arith) l ∙ rw (← n, ne_eqb (refusal_number e) 0 (never_0 e))
 
-pub hear_bad : (p : Post) (bytes buffer : List ℕ) (got : FrameRead) (n : ℕ) → length buffer ≡ 32 → got ≡ read_of bytes → got.refusal ≡ 0
-    → n ≡ record_refusal p → (n ≡ 0 → ⊥)
-    → HearIs p bytes buffer (record { answer = hearings.TheVariants.Refused n; post = p }) buffer
-unfolding hear_refusal_singly read_of
-hear_bad p bytes buffer got n l e z q h =
-    let b = record_bad p n q h in
-    let r : read_refusal bytes ≡ 0 = sym (ap (λ (g : FrameRead). g.refusal) e) ∙ z in
-    hear_refuses p bytes buffer n (is_32 buffer (after6 p bytes) l ∙ rw (eq-eqb (read_refusal bytes) 0 r, b.0) (sym b.1)) h
-
--- ---- the step runs
-
-pub record Runs (p : Post) (bytes buffer : List ℕ) (f : Frame) : Type 0 where
+-- the bytes are a frame
+pub record Reads (bytes : List ℕ) (f : Frame) : Type 0 where
+  pub number : read_refusal bytes ≡ 0
   pub frame : f ≡ frame_of bytes
-  pub accepted : frame_refusal (frame_of bytes) ≡ 0
-  pub judged : hear_refusal_singly p bytes buffer ≡ hear_refusal p (frame_of bytes)
 
-pub runs : (p : Post) (bytes buffer : List ℕ) (got : FrameRead) (n : ℕ) → length buffer ≡ 32 → got ≡ read_of bytes → got.refusal ≡ 0
-    → n ≡ record_refusal p → n ≡ 0 → Runs p bytes buffer got.frame
-unfolding hear_refusal_singly read_of
-runs p bytes buffer got n l e z q h =
-    let r : read_refusal bytes ≡ 0 = sym (ap (λ (g : FrameRead). g.refusal) e) ∙ z in
+pub reads : (bytes : List ℕ) (f : Frame) → read_answer (Ok f) ≡ read_of bytes → Reads bytes f
+unfolding read_of
+reads bytes f h =
+    let n : read_refusal bytes ≡ 0 = sym (ap (λ (g : FrameRead). g.refusal) h) in
+    record { number = n; frame = ap (λ (g : FrameRead). g.frame) h ∙ rw n }
+
+-- 12 of the record
+pub hear_bad : (p : Post) (bytes buffer : List ℕ) (f : Frame) (e : Refusal) → 0 ≡ length_refusal buffer → Reads bytes f → refusal_number e ≡ record_refusal p
+    → hear_refusal_singly p bytes buffer ≡ refusal_number e
+unfolding hear_refusal_singly
+hear_bad p bytes buffer f e l r h = passes (bad_length buffer) 6 _ (omega arith) l ∙ rw r.number (refuses (bad_record p) 12 _ e h)
+
+-- the record is good, and the step decides
+pub hear_decides : (p : Post) (bytes buffer l : List ℕ) (f : Frame) (n : ℕ) → 0 ≡ length_refusal buffer → Reads bytes f → Judged p l
+    → n ≡ hear_refusal (post_in l) f → hear_refusal_singly p bytes buffer ≡ n
+unfolding hear_refusal_singly
+hear_decides p bytes buffer l f n h r j e = passes (bad_length buffer) 6 _ (omega arith) h ∙ rw (r.number, j.good) (sym (rw (j.post, r.frame) at e))
+
+-- the step is not refused
+pub record Takes (p : Post) (bytes m : List ℕ) (d : row.RowHeard) : Type 0 where
+  pub accepted : hear_refusal p (frame_of bytes) ≡ 0
+  pub step : ◌≡◌ {A = after.Heard} (record { answer = hear_answer (Ok d.hearing); post = post_in m; frame = frame_or_none d.frame }) (hear_step p (frame_of bytes))
+  pub post : Shaped (hear_step p (frame_of bytes)).post × (bad_record (hear_step p (frame_of bytes)).post ≡ false)
+  pub read : frame_refusal (frame_of bytes) ≡ 0
+
+pub hear_takes : (p : Post) (bytes l m : List ℕ) (f : Frame) (d : row.RowHeard) → AreBytes bytes → Reads bytes f → Judged p l → 0 ≡ hear_refusal (post_in l) f
+    → stepped (hear_answer (Ok d.hearing)) m (frame_or_none d.frame) ≡ hears_by (known_in l) (post_in l) f → Takes p bytes m d
+hear_takes p bytes l m f d are r j z e =
+    let a : frame_refusal (frame_of bytes) ≡ 0 = (readable bytes r.number).1 in
     record {
-      frame = ap (λ (g : FrameRead). g.frame) e ∙ rw r;
-      accepted = (readable bytes r).1;
-      judged = is_32 buffer (after6 p bytes) l ∙ rw (eq-eqb (read_refusal bytes) 0 r, record_good p n q h);
+      accepted = sym (rw (j.post, r.frame) at z);
+      step = hear_runs p (frame_of bytes) l m _ _ j (rw r.frame at e);
+      post = hear_judged p (frame_of bytes) a (bytes_fit bytes are) j.shaped j.good;
+      read = a;
     }
 
-step_refused : (p : Post) (f : Frame) → eqb (hear_refusal p f) 0 ≡ false
-    → hear_step p f ≡ record { answer = hearings.TheVariants.Refused (hear_refusal p f); post = p; frame = no_frame }
+-- a broadcast is a good frame
+pub passed_good : (p : Post) (bytes l m : List ℕ) (f o : Frame) (d : row.RowHeard) → Reads bytes f → Judged p l → Takes p bytes m d
+    → is_some d.frame ≡ is_next f (last_of (post_in l) f.lane) → d.frame ≡ Some o → frame_refusal o ≡ 0
 unfolding hear_step
-step_refused p f e = rw e
+passed_good p bytes l m f o d r j s b h =
+    let next : is_next (frame_of bytes) (last_of p (frame_of bytes).lane) ≡ true = sym (rw (h, j.post, r.frame) at b) in
+    let e : o ≡ (hear_taken p (frame_of bytes)).frame = rw (h, s.accepted, next) at (ap (λ (a : after.Heard). a.frame) s.step) in
+    rw e (taken_accepted p (frame_of bytes) s.accepted next s.read)
 
--- the answer and the post are the step's, refused or not
-hear_answers : (p : Post) (bytes buffer : List ℕ) → hear_refusal_singly p bytes buffer ≡ hear_refusal p (frame_of bytes)
-    → ◌≡◌ {A = Heard} (record { answer = (hear_step p (frame_of bytes)).answer; post = (hear_step p (frame_of bytes)).post }) (hear_singly p bytes buffer)
-unfolding hear_singly
-hear_answers p bytes buffer j = go (eqb (hear_refusal p (frame_of bytes)) 0) refl
-  where
-    go : (b : Bool) → eqb (hear_refusal p (frame_of bytes)) 0 ≡ b
-        → ◌≡◌ {A = Heard} (record { answer = (hear_step p (frame_of bytes)).answer; post = (hear_step p (frame_of bytes)).post }) (hear_singly p bytes buffer)
-    go true e = rw (j, e)
-    go false e = rw (j, e, step_refused p (frame_of bytes) e)
+-- what is written for a broadcast, or for none
+pub broadcast : (buffer exit : List ℕ) (o : Option Frame) (f : Frame) → o ≡ Some f → exit ≡ frames_with buffer 0 f → exit ≡ frames_with buffer 0 (frame_or_none o)
+broadcast buffer exit o f h e = rw h e
 
--- what the step broadcasts goes into the buffer
-pub hear_sends : (p : Post) (bytes buffer : List ℕ) (f : Frame) (d : heard.Heard) (exit : List ℕ) → Runs p bytes buffer f → length buffer ≡ 32
-    → d ≡ hear_step p f → exit ≡ frames_with buffer 0 d.frame
-    → HearIs p bytes buffer (record { answer = d.answer; post = d.post }) exit
-unfolding hear_buffer hear_step hear_other hear_taken
-hear_sends p bytes buffer f d exit r l ed ex =
-    (rw e (hear_answers p bytes buffer r.judged), rw r.judged (go (eqb (hear_refusal p g) 0) refl (is_next g (last_of p g.lane)) refl))
+pub no_broadcast : (buffer : List ℕ) (o : Option Frame) → o ≡ None → buffer ≡ frames_with buffer 0 (frame_or_none o)
+no_broadcast buffer o h = rw h (sym (none_kept buffer 0 no_frame refl))
+
+-- the broadcast goes into the buffer, and the record that the step leaves is stored
+pub hear_done : (p : Post) (bytes buffer l m : List ℕ) (f : Frame) (d : row.RowHeard) (post : Post) (exit : List ℕ) → 0 ≡ length_refusal buffer
+    → Reads bytes f → Judged p l → Takes p bytes m d → length m ≡ 543 → exit ≡ frames_with buffer 0 (frame_or_none d.frame) → post ≡ record_in m
+    → Hears p bytes buffer (Ok (record { hearing = d.hearing; post = post })) exit
+unfolding hear_singly hear_buffer hear_step hear_other hear_taken
+hear_done p bytes buffer l m f d post exit h r j s wm ex ep =
+    hears p bytes buffer (Ok (record { hearing = d.hearing; post = post })) exit
+    (rw (z, q) (ap (λ (o : after.Heard). record { answer = o.answer; post = (hear_step p g).post }) s.step))
+    (rw z (go (is_next g (last_of p g.lane)) refl))
   where
     g : Frame
     g = frame_of bytes
 
-    e : d ≡ hear_step p g
-    e = ed ∙ ap (hear_step p) r.frame
+    z : hear_refusal_singly p bytes buffer ≡ 0
+    z = hear_decides p bytes buffer l f 0 h r j (rw (j.post, r.frame) (sym s.accepted))
 
-    go : (b : Bool) → eqb (hear_refusal p g) 0 ≡ b → (t : Bool) → is_next g (last_of p g.lane) ≡ t
-        → exit ≡ cond (eqb (hear_refusal p g) 0 && is_next g (last_of p g.lane)) (bytes_of (hear_taken p g).frame) buffer
-    go true b true t =
-        let w = buffer_filled buffer (hear_taken p g).frame l (taken_accepted p g (eqb-true (hear_refusal p g) 0 b) t r.accepted) in
-        rw (b, t) (ex ∙ rw (e, b, t) w)
-    go true b false t = rw (b, t) (ex ∙ rw (e, b, t) (none_kept buffer 0 no_frame refl))
-    go false b t s = rw b (ex ∙ rw (e, b) (none_kept buffer 0 no_frame refl))
+    q : post ≡ (hear_step p g).post
+    q = stored m (hear_step p g).post post wm (ap (λ (o : after.Heard). o.post) s.step) s.post ep
+
+    there : exit ≡ frames_with buffer 0 (hear_step p g).frame
+    there = ex ∙ ap (λ (o : after.Heard). frames_with buffer 0 o.frame) s.step
+
+    go : (t : Bool) → is_next g (last_of p g.lane) ≡ t → exit ≡ cond (is_next g (last_of p g.lane)) (bytes_of (hear_taken p g).frame) buffer
+    go true t = rw t (rw (s.accepted, t) at there ∙ buffer_filled buffer (hear_taken p g).frame (passed_32 buffer h) (taken_accepted p g s.accepted t s.read))
+    go false t = rw t (rw (s.accepted, t) at there ∙ none_kept buffer 0 no_frame refl)

@@ -1,6 +1,7 @@
 pub mod Broadcasts
 pub mod Numbers
 pub mod Judged
+pub mod Chains
 pub mod Rows
 pub mod OrderWays
 pub mod BeaconWays

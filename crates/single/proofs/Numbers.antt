@@ -19,11 +19,10 @@ use Rattle.steps.specs.Answers.{order_number, hear_number, beacon_number}
 use Rattle.steps.specs.Values.{order_serial, order_stamp, order_count, hear_count}
 use Rattle.steps.specs.Refusals.{is_order, is_next, hear_refusal}
 use Rattle.steps.specs.Steps.{order_sent, hear_taken, other_answer, hear_other, hear_step}
-use Rattle.steps.specs.declared.OrderAnswer as orders
-use Rattle.steps.specs.declared.HearAnswer as hearings
+use Rattle.steps.specs.OrderAnswer as orders
+use Rattle.steps.specs.HearAnswer as hearings
 use Rattle.single.specs.Single.{order_refusal_singly, order_singly, order_serial_singly, order_stamp_singly, order_count_singly, hear_refusal_singly, hear_singly, hear_count_singly, beacon_refusal_singly, beacon_singly}
-use Rattle.single.specs.declared.Ordered.{Ordered}
-use Rattle.single.specs.declared.Heard.{Heard}
+use Rattle.single.specs.Outcomes.{Ordered, Heard}
 
 -- an order that is sent answers 0
 sent_number : (p : Post) (word : ℕ) → order_number (order_sent p word).answer ≡ 0

@@ -1,2 +1,4 @@
 pub mod Single
+pub mod Outcomes
+pub mod Judged
 pub mod Lasting

@@ -10,12 +10,10 @@ use Rattle.deliver.specs.Delivery.{delivered}
 use Rattle.judge.specs.Judgement.{bad_record}
 use Rattle.steps.specs.Refusals.{not_in_yard, is_next, order_refusal, hear_refusal, beacon_refusal}
 use Rattle.steps.specs.Steps.{order_sent, hear_taken, hear_step}
-use Rattle.steps.specs.declared.OrderAnswer as orders
-use Rattle.steps.specs.declared.HearAnswer as hearings
-use Rattle.steps.specs.declared.BeaconAnswer as beacons
-use Rattle.single.specs.declared.FreshPost.{FreshPost}
-use Rattle.single.specs.declared.Ordered.{Ordered}
-use Rattle.single.specs.declared.Heard.{Heard}
+use Rattle.steps.specs.OrderAnswer as orders
+use Rattle.steps.specs.HearAnswer as hearings
+use Rattle.steps.specs.BeaconAnswer as beacons
+use Rattle.single.specs.Outcomes.{FreshPost, Ordered, Heard}
 
 -- "Making a fresh post singly is judged as its record would be, by 12 and then 21."
 unfoldable pub fresh_refusal : ℕ → ℕ → ℕ → ℕ → ℕ
@@ -40,7 +38,7 @@ order_refusal_singly p buffer =
 unfoldable pub order_singly : Post → ℕ → List ℕ → Ordered
 order_singly p word buffer =
     cond (eqb (order_refusal_singly p buffer) 0) (record { answer = (order_sent p word).answer; post = (order_sent p word).post })
-    (record { answer = orders.TheVariants.Refused (order_refusal_singly p buffer); post = p })
+    (record { answer = orders.Refused (order_refusal_singly p buffer); post = p })
 
 -- "An order answers with its serial, its stamp and the count delivered": the post's next serial and clock, and how many orders
 -- then join the log; 0 where it is refused
@@ -69,7 +67,7 @@ unfoldable pub hear_singly : Post → List ℕ → List ℕ → Heard
 hear_singly p bytes buffer =
     let f = frame_of bytes in
     cond (eqb (hear_refusal_singly p bytes buffer) 0) (record { answer = (hear_step p f).answer; post = (hear_step p f).post })
-    (record { answer = hearings.TheVariants.Refused (hear_refusal_singly p bytes buffer); post = p })
+    (record { answer = hearings.Refused (hear_refusal_singly p bytes buffer); post = p })
 
 -- "each carrying the count delivered": how many orders join the log once the order is taken, or the entries alone; 0 where it is refused
 unfoldable pub hear_count_singly : Post → List ℕ → List ℕ → ℕ
@@ -94,7 +92,7 @@ beacon_refusal_singly p buffer =
 
 unfoldable pub beacon_singly : Post → List ℕ → beacons.BeaconAnswer
 beacon_singly p buffer =
-    cond (eqb (beacon_refusal_singly p buffer) 0) beacons.TheVariants.Sent (beacons.TheVariants.Refused (beacon_refusal_singly p buffer))
+    cond (eqb (beacon_refusal_singly p buffer) 0) beacons.Sent (beacons.Refused (beacon_refusal_singly p buffer))
 
 unfoldable pub beacon_buffer : Post → List ℕ → List ℕ
 beacon_buffer p buffer = cond (eqb (beacon_refusal_singly p buffer) 0) (bytes_of (beacon_frame p)) buffer

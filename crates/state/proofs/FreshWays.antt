@@ -1,18 +1,15 @@
 -- The ways through the making of a fresh yard. Assumes nothing.
 use mathlib.Core.Path.{◌≡◌, refl, sym, ap, ◌∙◌}
-use mathlib.Core.Bool.{Bool, true, false, cond, not}
-use mathlib.Core.List.{List, [], ◌++◌, map, append-nil}
-use Prim.Native.Nat.{ℕ, ◌+◌, ◌-◌, ◌*◌, ◌<◌, ◌≤◌}
+use mathlib.Core.Bool.{Bool, true, false}
+use mathlib.Core.List.{List, [], ◌++◌, map}
+use Prim.Native.Nat.{ℕ, ◌+◌, ◌*◌, ◌<◌, ◌≤◌}
 use native.Mathlib.Omega.{arith}
 use native.Mathlib.Decide.{ℕ_discrete}
-use borrow.Author.Fill.{fill_more}
 use lib.Count.{ones}
 use lib.Dec.{eqb}
 use lib.ListN.{length, get_or, set, take, drop, replicate, length-take}
-use lib.Seq.{drop-length}
-use borrow.Author.Tests.{eqb-true, not-false}
+use borrow.Author.Tests.{ne_eqb}
 use Rattle.frame.specs.Lanes.{lanes}
-use Rattle.frame.proofs.Laws.{passed}
 use Rattle.cells.specs.Sets.{role_astray}
 use Rattle.post.specs.Record.{fresh_post}
 use Rattle.row.specs.Rows.{part, post_in, known_in}
@@ -22,41 +19,32 @@ use Rattle.state.specs.States.{whole, row_of, yard_in, knowns_in, held_in}
 use Rattle.state.specs.Fresh.{Made, nothing_known, fresh_in}
 use Rattle.state.specs.Making.{FreshFront, FreshBelow, SameFront}
 use Rattle.row.proofs.LentParts.{put_part}
-use Rattle.state.proofs.StateLaws.{at_lane, eight, held_whole, this_row, other_row, front_part, lent_row, row_back, back_is, lent_length}
-
--- ---- cells cleared, one after another
-
-pub cleared_more : (s₀ s : List ℕ) (n : ℕ) → n < length s₀ → s ≡ replicate n 0 ++ drop n s₀ → set s n 0 ≡ replicate (n + 1) 0 ++ drop (n + 1) s₀
-cleared_more s₀ s n h e = rw e (fill_more n 0 s₀ h)
-
-pub cleared : (s₀ s : List ℕ) (n : ℕ) → n ≡ length s₀ → s ≡ replicate n 0 ++ drop n s₀ → s ≡ replicate (length s₀) 0
-cleared s₀ s n h e = rw (h, drop-length, append-nil) at e
+use Rattle.state.proofs.StateLaws.{at_lane, eight, held_whole, held_other, this_row, other_row, front_part, lent_row, row_back, back_is, lent_length}
 
 -- ---- the cells before the rows
 
-pub front_fresh : (s row t u m : List ℕ) (present sources : ℕ) → length s ≡ 4483 → row ≡ replicate (length (take (139 - 0) (drop 0 s))) 0
-    → t ≡ take 0 s ++ (row ++ drop (139 - 0) (drop 0 s)) → u ≡ set t 0 present → m ≡ set u 1 sources → FreshFront m present sources
+pub front_fresh : (s row : List ℕ) (present sources : ℕ) → length s ≡ 4483 → row ≡ replicate (length (take 139 s)) 0
+    → FreshFront (set (set (row ++ drop 139 s) 0 present) 1 sources) present sources
 unfolding part
-front_fresh s row t u m present sources long er et eu em =
+front_fresh s row present sources long er =
     let l : length (take 139 s) ≡ 139 = simp length-take (omega arith) in
     let w : row ≡ replicate 139 0 = rw l at er in
-    let e : m ≡ set (set (replicate 139 0 ++ drop 139 s) 0 present) 1 sources = rw (em, eu, et, w) in
     record {
-      posts = rw e;
-      roles = rw e;
-      frames = rw e;
-      beacons = rw e;
-      first = rw e;
+      posts = rw w;
+      roles = rw w;
+      frames = rw w;
+      beacons = rw w;
+      first = rw w;
     }
 
 -- ---- a row
 
-pub row_fresh : (l a b d e m : List ℕ) (lane present sources dests : ℕ) → length l ≡ 543 → a ≡ replicate (length l) 0 → b ≡ set a 0 lane → d ≡ set b 1 sources
-    → e ≡ set d 2 dests → m ≡ set e 542 present
-    → (post_in m ≡ fresh_post lane present sources dests) × (known_in m ≡ replicate 8 0)
+pub row_fresh : (l a : List ℕ) (lane present sources dests : ℕ) → length l ≡ 543 → a ≡ replicate (length l) 0
+    → let m : List ℕ = set (set (set (set a 0 lane) 1 sources) 2 dests) 542 present in
+    (post_in m ≡ fresh_post lane present sources dests) × (known_in m ≡ replicate 8 0)
 unfolding post_in known_in part
-row_fresh l a b d e m lane present sources dests long ea eb ed ee em =
-    let w : m ≡ set (set (set (set (replicate 543 0) 0 lane) 1 sources) 2 dests) 542 present = rw (em, ee, ed, eb, ea, long) in
+row_fresh l a lane present sources dests long ea =
+    let w : a ≡ replicate 543 0 = rw long at ea in
     (rw w, rw w)
 
 -- none yet, and one more
@@ -106,33 +94,34 @@ held_fresh s t present sources dests long f b e =
     held_whole t long
     ∙ rw (ps, ks, same_cell s t 0 e (omega arith), same_cell s t 1 e (omega arith), same_cell s t 2 e (omega arith), e 3 8 (omega arith), e 11 128 (omega arith), f.posts, f.roles, f.frames, f.beacons, f.first)
 
--- 3, then 12, for the roles or the length
-pub fresh_judged : (s : List ℕ) (present sources dests n12 m n : ℕ) (astray : Bool) → n12 ≡ cond (not (eqb (length s) 4483)) 12 0 → astray ≡ role_astray present sources dests
-    → m ≡ cond astray 12 n12 → n ≡ cond (eqb (ones present) 0) 3 m → n ≡ 0 → (length s ≡ 4483) × (yard_refusal present sources dests ≡ 0)
-unfolding yard_refusal
-fresh_judged s present sources dests n12 m n astray e12 ea em en z =
-    let a = passed (eqb (ones present) 0) 3 m (omega arith) (sym en ∙ z) in
-    let b = passed astray 12 n12 (omega arith) (sym em ∙ a.1) in
-    let d = passed (not (eqb (length s) 4483)) 12 0 (omega arith) (sym e12 ∙ b.1) in
-    (eqb-true (length s) 4483 (not-false _ d.0), rw (a.0, ← ea, b.0))
-
-pub fresh_refused : (s : List ℕ) (present sources dests n12 m n : ℕ) (astray : Bool) → n12 ≡ cond (not (eqb (length s) 4483)) 12 0 → astray ≡ role_astray present sources dests
-    → m ≡ cond astray 12 n12 → n ≡ cond (eqb (ones present) 0) 3 m → (n ≡ 0 → ⊥)
-    → ◌≡◌ {A = Made} (record { number = n; held = held_in s }) (fresh_in (held_in s) present sources dests)
+-- no posts, 3
+pub fresh_no_posts : (s : List ℕ) (present sources dests : ℕ) → ones present ≡ 0
+    → ◌≡◌ {A = Made} (record { number = 3; held = held_in s }) (fresh_in (held_in s) present sources dests)
 unfolding held_in fresh_in yard_refusal
-fresh_refused s present sources dests n12 m n astray e12 ea em en h = go (eqb (length s) 4483) refl astray refl (eqb (ones present) 0) refl
+fresh_no_posts s present sources dests none = go (eqb (length s) 4483) refl
   where
-    go : (a : Bool) → eqb (length s) 4483 ≡ a → (b : Bool) → astray ≡ b → (d : Bool) → eqb (ones present) 0 ≡ d
-        → ◌≡◌ {A = Made} (record { number = n; held = held_in s }) (fresh_in (held_in s) present sources dests)
-    go false p b q true r = let z : n ≡ 3 = rw r at en in rw (p, r, z)
-    go false p true q false r = let z : n ≡ 12 = rw (r, em, q) at en in rw (p, r, z)
-    go false p false q false r = let z : n ≡ 12 = rw (r, em, q, e12, p) at en in rw (p, r, z)
-    go true p b q true r = let z : n ≡ 3 = rw r at en in rw (p, r, z)
-    go true p true q false r = let z : n ≡ 12 = rw (r, em, q) at en in rw (p, r, ← ea, q, z)
-    go true p false q false r = absurd (h (rw (r, em, q, e12, p) at en))
+    go : (a : Bool) → eqb (length s) 4483 ≡ a → ◌≡◌ {A = Made} (record { number = 3; held = held_in s }) (fresh_in (held_in s) present sources dests)
+    go true p = rw (p, none)
+    go false p = rw (p, none)
 
-pub fresh_made : (s u t : List ℕ) (present sources dests : ℕ) → length s ≡ 4483 → yard_refusal present sources dests ≡ 0 → length t ≡ 4483
+-- 12, for the roles or the length
+pub fresh_astray : (s : List ℕ) (present sources dests : ℕ) → (ones present ≡ 0 → ⊥) → role_astray present sources dests ≡ true
+    → ◌≡◌ {A = Made} (record { number = 12; held = held_in s }) (fresh_in (held_in s) present sources dests)
+unfolding held_in fresh_in yard_refusal
+fresh_astray s present sources dests some astray = go (eqb (length s) 4483) refl
+  where
+    go : (a : Bool) → eqb (length s) 4483 ≡ a → ◌≡◌ {A = Made} (record { number = 12; held = held_in s }) (fresh_in (held_in s) present sources dests)
+    go true p = rw (p, ne_eqb (ones present) 0 some, astray)
+    go false p = rw (p, ne_eqb (ones present) 0 some)
+
+pub fresh_short : (s : List ℕ) (present sources dests : ℕ) → (ones present ≡ 0 → ⊥) → (length s ≡ 4483 → ⊥)
+    → ◌≡◌ {A = Made} (record { number = 12; held = held_in s }) (fresh_in (held_in s) present sources dests)
+unfolding fresh_in
+fresh_short s present sources dests some short = rw (held_other s short, ne_eqb (ones present) 0 some)
+
+pub fresh_made : (s u t : List ℕ) (present sources dests : ℕ) → length s ≡ 4483 → (ones present ≡ 0 → ⊥) → role_astray present sources dests ≡ false → length t ≡ 4483
     → FreshFront u present sources → FreshBelow t present sources dests 8 → SameFront u t
     → ◌≡◌ {A = Made} (record { number = 0; held = held_in t }) (fresh_in (held_in s) present sources dests)
-unfolding fresh_in
-fresh_made s u t present sources dests long z lt f b e = rw (held_whole s long, z, held_fresh u t present sources dests lt f b e)
+unfolding fresh_in yard_refusal
+fresh_made s u t present sources dests long some astray lt f b e =
+    rw (held_whole s long, ne_eqb (ones present) 0 some, astray, held_fresh u t present sources dests lt f b e)

@@ -7,6 +7,10 @@ mod making;
 ghost use Rattle.std.specs.Prelude.{◌≡◌};
 ghost use Rattle.state.specs.States.{held_in};
 ghost use Rattle.state.specs.Fresh.{Made, fresh_in};
+ghost use Rattle.refusal.specs.Numbers.{refused_with};
+
+use making::Roles;
+use refusal::Refusal;
 
 // How many lanes there are.
 pub const LANES: usize = 8;
@@ -28,17 +32,24 @@ pub const ROWS: usize = (FIRST + row::ORDERS) as usize;
 pub const LENGTH: usize = ROWS + LANES * row::LENGTH;
 
 // A fresh yard from the lanes that have a post, the sources and the destinations (3, 12).
-pub fn fresh(state: &mut [u16], present: u8, sources: u8, dests: u8) -> u8
-    ensures { ◌≡◌ {A = Made} (record { number = result; held = held_in state.new }) (fresh_in (held_in state.old) present sources dests) }
+pub fn fresh(state: &mut [u16], present: u8, sources: u8, dests: u8) -> Result<(), Refusal>
+    ensures { ◌≡◌ {A = Made} (record { number = refused_with result; held = held_in state.new }) (fresh_in (held_in state.old) present sources dests) }
 {
-    let number = cells::pick(state.len() != LENGTH, 12, 0);
-    let astray = cells::role_astray(present as u16, sources as u16, dests as u16);
-    let number = cells::pick(astray, 12, number);
-    let number = cells::pick(u8::count_ones(present) == 0, 3, number);
-    if number != 0 {
-        return number;
+    if present.count_ones() == 0 {
+        return Err(Refusal::NoYard);
     }
-    making::front(state, present as u16, sources as u16);
-    making::rows(state, present as u16, sources as u16, dests as u16);
-    0
+    let roles = Roles {
+        present: present as u16,
+        sources: sources as u16,
+        dests: dests as u16,
+    };
+    if cells::role_astray(roles.present, roles.sources, roles.dests) {
+        return Err(Refusal::BadRecord);
+    }
+    let Some(state) = state.as_mut_array::<LENGTH>() else {
+        return Err(Refusal::BadRecord);
+    };
+    roles.lay_front(state);
+    roles.lay_rows(state);
+    Ok(())
 }

@@ -9,8 +9,8 @@ use Rattle.row.specs.Rows.{post_in, known_in}
 use Rattle.deliver.specs.Known.{delivered_from}
 use Rattle.steps.specs.Refusals.{order_refusal, is_next, hear_refusal}
 use Rattle.steps.specs.Steps.{order_step, hear_step, other_answer}
-use Rattle.steps.specs.declared.OrderAnswer as orders
-use Rattle.steps.specs.declared.HearAnswer as hearings
+use Rattle.steps.specs.OrderAnswer as orders
+use Rattle.steps.specs.HearAnswer as hearings
 
 -- what a step answers and leaves: the post, what it knows then, and the broadcast
 pub record Stepped (Answer : Type 0) : Type 0 where
@@ -29,8 +29,8 @@ orders_by known p word =
     let q = own_taken p word in
     let d = delivered_from known q in
     cond (eqb (order_refusal p) 0)
-    (record { answer = orders.TheVariants.Sent q.serial q.clock d.count; post = d.post; known = d.known; frame = (order_step p word).frame })
-    (record { answer = orders.TheVariants.Refused (order_refusal p); post = p; known = known; frame = (order_step p word).frame })
+    (record { answer = orders.Sent q.serial q.clock d.count; post = d.post; known = d.known; frame = (order_step p word).frame })
+    (record { answer = orders.Refused (order_refusal p); post = p; known = known; frame = (order_step p word).frame })
 
 unfoldable pub order_count_by : List ℕ → Post → ℕ → ℕ
 order_count_by known p word = cond (eqb (order_refusal p) 0) (delivered_from known (own_taken p word)).count 0
@@ -41,7 +41,7 @@ hear_took p f = cond (is_next f (last_of p f.lane)) (taken p f) (raised_post p f
 
 -- what a hearing answers that is not refused
 abbrev pub passed_answer : Frame → ℕ → ℕ → hearings.HearAnswer
-passed_answer f last count = cond (is_next f last) (hearings.TheVariants.Taken count) (other_answer f last count)
+passed_answer f last count = cond (is_next f last) (hearings.Taken count) (other_answer f last count)
 
 -- a hearing: its parts 1 to 3, and it delivers what is due and not known to be logged
 unfoldable pub hears_by : List ℕ → Post → Frame → Stepped hearings.HearAnswer
@@ -49,7 +49,7 @@ hears_by known p f =
     let d = delivered_from known (hear_took p f) in
     cond (eqb (hear_refusal p f) 0)
     (record { answer = passed_answer f (last_of p f.lane) d.count; post = d.post; known = d.known; frame = (hear_step p f).frame })
-    (record { answer = hearings.TheVariants.Refused (hear_refusal p f); post = p; known = known; frame = (hear_step p f).frame })
+    (record { answer = hearings.Refused (hear_refusal p f); post = p; known = known; frame = (hear_step p f).frame })
 
 unfoldable pub hear_count_by : List ℕ → Post → Frame → ℕ
 hear_count_by known p f = cond (eqb (hear_refusal p f) 0) (delivered_from known (hear_took p f)).count 0

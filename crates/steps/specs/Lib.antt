@@ -1,5 +1,9 @@
+pub mod OrderAnswer
+pub mod HearAnswer
+pub mod BeaconAnswer
 pub mod Refusals
 pub mod Steps
+pub mod Outcomes
 pub mod Answers
 pub mod Values
 pub mod Knowing

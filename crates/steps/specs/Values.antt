@@ -7,29 +7,29 @@ use Rattle.post.specs.Record.{last_of}
 use Rattle.post.specs.Taking.{own_taken, raised_post, taken}
 use Rattle.deliver.specs.Delivery.{delivered}
 use Rattle.steps.specs.Refusals.{order_refusal, is_next, hear_refusal}
-use Rattle.steps.specs.declared.OrderAnswer as orders
-use Rattle.steps.specs.declared.HearAnswer as hearings
+use Rattle.steps.specs.OrderAnswer as orders
+use Rattle.steps.specs.HearAnswer as hearings
 
 -- "An order answers with its serial, its stamp and the count delivered"
 abbrev pub order_serial : orders.OrderAnswer → ℕ
-order_serial (orders.TheVariants.Sent serial stamp count) = serial.0
-order_serial (orders.TheVariants.Refused number) = 0
+order_serial (orders.Sent serial stamp count) = serial.0
+order_serial (orders.Refused number) = 0
 
 abbrev pub order_stamp : orders.OrderAnswer → ℕ
-order_stamp (orders.TheVariants.Sent serial stamp count) = stamp.0
-order_stamp (orders.TheVariants.Refused number) = 0
+order_stamp (orders.Sent serial stamp count) = stamp.0
+order_stamp (orders.Refused number) = 0
 
 -- "for all four answers (taken, again, early, beacon), each carrying the count delivered"
 abbrev pub order_count : orders.OrderAnswer → ℕ
-order_count (orders.TheVariants.Sent serial stamp count) = count
-order_count (orders.TheVariants.Refused number) = 0
+order_count (orders.Sent serial stamp count) = count
+order_count (orders.Refused number) = 0
 
 abbrev pub hear_count : hearings.HearAnswer → ℕ
-hear_count (hearings.TheVariants.Taken count) = count
-hear_count (hearings.TheVariants.Again count) = count
-hear_count (hearings.TheVariants.Early count) = count
-hear_count (hearings.TheVariants.Beacon count) = count
-hear_count (hearings.TheVariants.Refused number) = 0
+hear_count (hearings.Taken count) = count
+hear_count (hearings.Again count) = count
+hear_count (hearings.Early count) = count
+hear_count (hearings.Beacon count) = count
+hear_count (hearings.Refused number) = 0
 
 -- an order's values: the post's next serial and clock, and how many orders then join the log; 0 where it is refused
 unfoldable pub order_step_serial : Post → ℕ

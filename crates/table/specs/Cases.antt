@@ -10,7 +10,7 @@ use Rattle.cells.specs.Tables.{stamp_under}
 use Rattle.post.specs.Record.{fresh_post}
 use Rattle.steps.specs.Answers.{order_number, hear_number}
 use Rattle.steps.specs.Steps.{hear_step}
-use Rattle.steps.specs.declared.HearAnswer.TheVariants.{Taken, Again, Early}
+use Rattle.steps.specs.HearAnswer.{Taken, Again, Early}
 use Rattle.single.specs.Single.{order_singly}
 use Rattle.table.specs.Posts.{fresh, blank, after, frame_of_order, hearing, frame_of_hearing, items, frame0, post1, frame1, frame2, post0, post2, serial17, orders_sent, clock_at}
 

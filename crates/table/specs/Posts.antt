@@ -2,7 +2,7 @@
 use Rattle.std.specs.Prelude.{ℕ, zero, suc, ◌/◌, List, [], ◌∷◌, map, get_or, take, set, replicate}
 use Rattle.post.specs.declared.Post.{Post}
 use Rattle.post.specs.Record.{fresh_post, with_clock}
-use Rattle.single.specs.declared.Heard.{Heard}
+use Rattle.single.specs.Outcomes.{Heard}
 use Rattle.single.specs.Single.{order_singly, order_buffer, hear_singly, hear_buffer}
 
 -- `(yard (0 both) (1 source) (2 dest))`

@@ -1,11 +1,11 @@
 -- The bench's yards and lists of steps, and what is compared of them. Assumes nothing.
 use Rattle.std.specs.Prelude.{ℕ, zero, suc, ◌≡◌, List, [], ◌∷◌, ◌++◌, map, replicate}
-use Rattle.steps.specs.declared.OrderAnswer as orders
-use Rattle.steps.specs.declared.HearAnswer as hearings
-use Rattle.steps.specs.declared.BeaconAnswer as beaconing
+use Rattle.steps.specs.OrderAnswer as orders
+use Rattle.steps.specs.HearAnswer as hearings
+use Rattle.steps.specs.BeaconAnswer as beaconing
 use Rattle.state.specs.Yards.{Yard, post_at, fresh_yard}
 use Rattle.yard.specs.Worlds.{World, order, hear}
-use Rattle.roll.specs.declared.RollAnswer as calling
+use Rattle.roll.specs.RollAnswer as calling
 use Rattle.roll.specs.Runs.{Step, one, Answer, ordered, heard, beaconed, called, answer, step, Order}
 use Rattle.roll.specs.Logs.{log_at}
 
@@ -44,38 +44,38 @@ the_order lane serial stamp word = record { lane = lane; serial = serial; stamp 
 
 -- "An order answers with its serial, its stamp and the count delivered"
 abbrev pub sends : ℕ → ℕ → ℕ → Answer
-sends serial stamp count = ordered (orders.TheVariants.Sent (record { 0 = serial }) (record { 0 = stamp }) count)
+sends serial stamp count = ordered (orders.Sent (record { 0 = serial }) (record { 0 = stamp }) count)
 
 -- "taken, again, early, beacon, each carrying the count delivered"
 abbrev pub takes : ℕ → Answer
-takes count = heard (hearings.TheVariants.Taken count)
+takes count = heard (hearings.Taken count)
 
 abbrev pub hears_again : ℕ → Answer
-hears_again count = heard (hearings.TheVariants.Again count)
+hears_again count = heard (hearings.Again count)
 
 abbrev pub hears_early : ℕ → Answer
-hears_early count = heard (hearings.TheVariants.Early count)
+hears_early count = heard (hearings.Early count)
 
 -- "a beacon with no more than sent"
 abbrev pub beacon_sent : Answer
-beacon_sent = beaconed beaconing.TheVariants.Sent
+beacon_sent = beaconed beaconing.Sent
 
 -- a roll call "returns the length of the list"
 abbrev pub calls : ℕ → Answer
-calls steps = called (calling.TheVariants.Called steps)
+calls steps = called (calling.Called steps)
 
 -- the refusals
 abbrev pub order_refused : ℕ → Answer
-order_refused number = ordered (orders.TheVariants.Refused number)
+order_refused number = ordered (orders.Refused number)
 
 abbrev pub hear_refused : ℕ → Answer
-hear_refused number = heard (hearings.TheVariants.Refused number)
+hear_refused number = heard (hearings.Refused number)
 
 abbrev pub beacon_refused : ℕ → Answer
-beacon_refused number = beaconed (beaconing.TheVariants.Refused number)
+beacon_refused number = beaconed (beaconing.Refused number)
 
 abbrev pub call_refused : ℕ → Answer
-call_refused number = called (calling.TheVariants.Refused number)
+call_refused number = called (calling.Refused number)
 
 -- ---- the yards
 

@@ -3,9 +3,9 @@
 use Rattle.std.specs.Prelude.{ℕ, ◌+◌, ◌*◌}
 use Rattle.steps.specs.Answers.{order_number, hear_number, beacon_number}
 use Rattle.steps.specs.Values.{order_serial, order_stamp, order_count, hear_count}
-use Rattle.steps.specs.declared.OrderAnswer as orders
-use Rattle.steps.specs.declared.HearAnswer as hearings
-use Rattle.steps.specs.declared.BeaconAnswer as beaconing
+use Rattle.steps.specs.OrderAnswer as orders
+use Rattle.steps.specs.HearAnswer as hearings
+use Rattle.steps.specs.BeaconAnswer as beaconing
 
 -- bits 0 to 7, 8 to 15, 16 to 23, 24 to 31, 32 to 47, and 48 to 63
 abbrev pub told : ℕ → ℕ → ℕ → ℕ → ℕ → ℕ → ℕ
@@ -14,19 +14,19 @@ told number code count serial stamp steps =
 
 -- codes: 0 refused, 1 order sent, 2 taken, 3 again, 4 early, 5 beacon heard, 6 beacon sent
 abbrev pub order_code : orders.OrderAnswer → ℕ
-order_code (orders.TheVariants.Sent serial stamp count) = 1
-order_code (orders.TheVariants.Refused number) = 0
+order_code (orders.Sent serial stamp count) = 1
+order_code (orders.Refused number) = 0
 
 abbrev pub hear_code : hearings.HearAnswer → ℕ
-hear_code (hearings.TheVariants.Taken count) = 2
-hear_code (hearings.TheVariants.Again count) = 3
-hear_code (hearings.TheVariants.Early count) = 4
-hear_code (hearings.TheVariants.Beacon count) = 5
-hear_code (hearings.TheVariants.Refused number) = 0
+hear_code (hearings.Taken count) = 2
+hear_code (hearings.Again count) = 3
+hear_code (hearings.Early count) = 4
+hear_code (hearings.Beacon count) = 5
+hear_code (hearings.Refused number) = 0
 
 abbrev pub beacon_code : beaconing.BeaconAnswer → ℕ
-beacon_code beaconing.TheVariants.Sent = 6
-beacon_code (beaconing.TheVariants.Refused number) = 0
+beacon_code beaconing.Sent = 6
+beacon_code (beaconing.Refused number) = 0
 
 -- the answer's number and values
 abbrev pub order_told : orders.OrderAnswer → ℕ

@@ -2,54 +2,69 @@
 #![tactic(auto)]
 
 ghost use Rattle.std.specs.Prelude.{◌≡◌, ◌%◌};
-ghost use Rattle.steps.specs.Answers.{order_number, hear_number, beacon_number};
+ghost use Rattle.refusal.specs.Numbers.{refused_with};
+ghost use Rattle.steps.specs.OrderAnswer.{order_answer};
+ghost use Rattle.steps.specs.HearAnswer.{hear_answer};
+ghost use Rattle.steps.specs.BeaconAnswer.{beacon_answer};
 ghost use Rattle.told.specs.Told.{told, order_told, hear_told, beacon_told};
 
-use steps::{BeaconAnswer, HearAnswer, OrderAnswer};
+use refusal::Refusal;
+use steps::{Hearing, Sent};
+
+// The codes of answers.
+const REFUSED: u8 = 0;
+
+const SENT: u8 = 1;
+
+const TAKEN: u8 = 2;
+
+const AGAIN: u8 = 3;
+
+const EARLY: u8 = 4;
+
+const BEACON_HEARD: u8 = 5;
+
+const BEACON_SENT: u8 = 6;
 
 // An answer's number and values, each in its bits; the lowest eight are the number.
 pub fn told(number: u8, code: u8, count: u8, serial: u8, stamp: u16, steps: u16) -> u64
     ensures value { result ≡ told number code count serial stamp steps }
     ensures number { result % 256 ≡ number }
 {
-    let high = (stamp as u64) * 4294967296 + (steps as u64) * 281474976710656;
-    let middle = (count as u64) * 65536 + ((serial as u64) * 16777216 + high);
-    (number as u64) + ((code as u64) * 256 + middle)
+    let high = ((stamp as u64) << 32) + ((steps as u64) << 48);
+    let middle = ((count as u64) << 16) + (((serial as u64) << 24) + high);
+    (number as u64) + (((code as u64) << 8) + middle)
 }
 
-pub fn order_told(answer: OrderAnswer) -> u64
-    ensures value { result ≡ order_told answer }
-    ensures number { result % 256 ≡ order_number answer }
+pub fn order_told(answer: Result<Sent, Refusal>) -> u64
+    ensures value { result ≡ order_told (order_answer answer) }
+    ensures number { result % 256 ≡ refused_with answer }
 {
     match answer {
-        OrderAnswer::Sent {
-            serial,
-            stamp,
-            count,
-        } => told(0, 1, count, serial.0, stamp.0, 0),
-        OrderAnswer::Refused(number) => told(number, 0, 0, 0, 0, 0),
+        Ok(sent) => told(0, SENT, sent.count, sent.serial.0, sent.stamp.0, 0),
+        Err(refusal) => told(refusal.into(), REFUSED, 0, 0, 0, 0),
     }
 }
 
-pub fn hear_told(answer: HearAnswer) -> u64
-    ensures value { result ≡ hear_told answer }
-    ensures number { result % 256 ≡ hear_number answer }
+pub fn hear_told(answer: Result<Hearing, Refusal>) -> u64
+    ensures value { result ≡ hear_told (hear_answer answer) }
+    ensures number { result % 256 ≡ refused_with answer }
 {
     match answer {
-        HearAnswer::Taken(count) => told(0, 2, count, 0, 0, 0),
-        HearAnswer::Again(count) => told(0, 3, count, 0, 0, 0),
-        HearAnswer::Early(count) => told(0, 4, count, 0, 0, 0),
-        HearAnswer::Beacon(count) => told(0, 5, count, 0, 0, 0),
-        HearAnswer::Refused(number) => told(number, 0, 0, 0, 0, 0),
+        Ok(Hearing::Taken(count)) => told(0, TAKEN, count, 0, 0, 0),
+        Ok(Hearing::Again(count)) => told(0, AGAIN, count, 0, 0, 0),
+        Ok(Hearing::Early(count)) => told(0, EARLY, count, 0, 0, 0),
+        Ok(Hearing::Beacon(count)) => told(0, BEACON_HEARD, count, 0, 0, 0),
+        Err(refusal) => told(refusal.into(), REFUSED, 0, 0, 0, 0),
     }
 }
 
-pub fn beacon_told(answer: BeaconAnswer) -> u64
-    ensures value { result ≡ beacon_told answer }
-    ensures number { result % 256 ≡ beacon_number answer }
+pub fn beacon_told(answer: Result<(), Refusal>) -> u64
+    ensures value { result ≡ beacon_told (beacon_answer answer) }
+    ensures number { result % 256 ≡ refused_with answer }
 {
     match answer {
-        BeaconAnswer::Sent => told(0, 6, 0, 0, 0, 0),
-        BeaconAnswer::Refused(number) => told(number, 0, 0, 0, 0, 0),
+        Ok(()) => told(0, BEACON_SENT, 0, 0, 0, 0),
+        Err(refusal) => told(refusal.into(), REFUSED, 0, 0, 0, 0),
     }
 }

@@ -7,8 +7,7 @@ use native.Mathlib.Omega.{arith}
 use lib.Dec.{ltb}
 use lib.ListN.{length}
 use borrow.Author.Tests.{ltb-true, lt-ltb, le-ltb}
-use Rattle.lines.specs.declared.Line.{Line}
-use Rattle.lines.specs.declared.Line.TheVariants.{Yard, Order, Hear, Beacon, Roll, Refused}
+use Rattle.lines.specs.Line.{Line, Yard, Order, Hear, Beacon, Roll, Refused}
 use Rattle.lines.specs.Lines.{line_at, number_of, next_of, lines_from}
 use Rattle.written.proofs.Theorem.{exact, line_some}
 

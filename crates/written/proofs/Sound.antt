@@ -8,8 +8,7 @@ use lib.Dec.{eqb}
 use lib.ListN.{length}
 use borrow.Author.Tests.{eqb-true, eqb-false}
 use Rattle.text.specs.Bytes.{bytes}
-use Rattle.lines.specs.declared.Line.{Line}
-use Rattle.lines.specs.declared.Line.TheVariants.{Order, Hear, Beacon, Roll, Refused}
+use Rattle.lines.specs.Line.{Line, Order, Hear, Beacon, Roll, Refused}
 use Rattle.scan.specs.Scan.{start_at}
 use Rattle.lines.specs.Forms.{read_form, order_form, hear_form, beacon_form, roll_form}
 use Rattle.lines.specs.Lines.{line_at, hear_or, beacon_or, roll_or, yard_or, order_line, hear_line, beacon_line, roll_line, step_line_refusal, number_of, next_of}

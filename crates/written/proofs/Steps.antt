@@ -9,7 +9,7 @@ use lib.ListN.{length, get_or}
 use borrow.Author.Tests.{eq-eqb, ne_eqb, le-ltb}
 use Rattle.text.specs.Bytes.{bytes}
 use Rattle.scan.specs.declared.Scan.{Scan}
-use Rattle.lines.specs.declared.Line.TheVariants.{Order, Hear, Beacon, Roll}
+use Rattle.lines.specs.Line.{Order, Hear, Beacon, Roll}
 use Rattle.scan.specs.Scan.{read_text, read_number, start_at}
 use Rattle.lines.specs.Forms.{Item, text, number, read_items, read_form, order_form, hear_form, beacon_form, roll_form}
 use Rattle.lines.specs.Lines.{line_at, hear_or, beacon_or, roll_or, yard_or, order_line, hear_line, beacon_line, roll_line, step_line_refusal}

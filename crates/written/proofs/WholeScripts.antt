@@ -8,9 +8,8 @@ use lib.Dec.{ltb, eqb}
 use lib.ListN.{length, drop, take-append-drop, drop_of_length-le, length-append, get_or-append}
 use lib.Seq.{drop-drop}
 use borrow.Author.Tests.{eqb-true, eqb-false, ltb-true, ltb-false, le-ltb, ne_eqb}
-use Rattle.lines.specs.declared.Judged.{Judged}
-use Rattle.lines.specs.declared.Line.{Line}
-use Rattle.lines.specs.declared.Line.TheVariants.{Yard, Order, Hear, Beacon, Roll, Refused}
+use Rattle.lines.specs.Judged.{Judged}
+use Rattle.lines.specs.Line.{Line, Yard, Order, Hear, Beacon, Roll, Refused}
 use Rattle.lines.specs.Lines.{line_at, number_of, next_of, lines_from, lines_of, judged_lines, judged}
 use Rattle.written.specs.Written.{line_text, Right}
 use Rattle.written.specs.WholeScripts.{text_of, followed_at, laid, RightSteps, WholeScripts}

@@ -10,7 +10,7 @@ use borrow.Author.Tests.{eqb-true, ltb-true, lt-ltb, eq-eqb}
 use Rattle.text.specs.Bytes.{bytes}
 use Rattle.scan.specs.declared.Scan.{Scan}
 use Rattle.lines.specs.declared.YardScan.{YardScan}
-use Rattle.lines.specs.declared.Line.TheVariants.{Yard, Refused}
+use Rattle.lines.specs.Line.{Yard, Refused}
 use Rattle.scan.specs.Scan.{stands, start_at, read_text}
 use Rattle.lines.specs.Forms.{read_post, post_added, posts_read, no_posts, scan_of, yard_posts, read_yard}
 use Rattle.lines.specs.Lines.{line_at, yard_or, yard_line_refusal, yard_line, number_of}

@@ -1,6 +1,6 @@
 -- The reader's definitions accept exactly the lines that are written: the statement. Whole scripts: WholeScripts.antt. Assumes nothing.
 use Rattle.std.specs.Prelude.{ℕ, ◌+◌, ◌≤◌, ◌≡◌, List, length, take, drop}
-use Rattle.lines.specs.declared.Line.{Line}
+use Rattle.lines.specs.Line.{Line}
 use Rattle.lines.specs.Lines.{line_at, number_of, next_of}
 use Rattle.written.specs.Written.{line_text, Right}
 

@@ -1,15 +1,18 @@
 -- The ways through a hearing on a state. Assumes nothing.
 use mathlib.Core.Path.{◌≡◌, refl, sym, ◌∙◌}
+use mathlib.Core.Bool.{cond}
+use mathlib.Core.Logic.{◌⊎◌, inl, inr}
 use mathlib.Core.List.{List, []}
 use Prim.Native.Nat.{ℕ, ◌+◌, ◌*◌, ◌<◌, ◌≤◌}
 use native.Mathlib.Omega.{arith}
+use lib.Dec.{ltb, eqb}
 use lib.ListN.{length, get_or, set}
 use borrow.Author.Tests.{ne_eqb, lt-ltb, le-ltb}
 use Rattle.frame.specs.declared.Frame.{Frame}
 use Rattle.air.specs.Air.{frames_with}
 use Rattle.row.specs.Rows.{post_in, known_in}
 use Rattle.steps.specs.Knowing.{Stepped, stepped, hears_by}
-use Rattle.steps.specs.declared.HearAnswer as hearings
+use Rattle.steps.specs.HearAnswer as hearings
 use Rattle.state.specs.Yards.{Yard, post_at}
 use Rattle.state.specs.Changed.{with_post}
 use Rattle.yard.specs.Singles.{frames_after, stops_hearing, frame_at}
@@ -17,26 +20,34 @@ use Rattle.state.specs.States.{Held, whole, other, row_of, yard_in, knowns_in, h
 use Rattle.yard.specs.InState.{After, after, hears_in}
 use Rattle.row.proofs.LentParts.{put_part}
 use Rattle.state.proofs.StateLaws.{held_whole, held_other, at_yard, at_knowns, frames_in_lem, front_cell, row_long, row_yard, row_knowns, lent_row, row_back, lent_is, back_is, lent_length, frames_held}
-use Rattle.yard.proofs.PartWays.{Sends}
+use Rattle.yard.proofs.PartWays.{Sends, misplaced}
 
 -- refused: 4, 12, and what stops it
 over_7 : (h : Held) (air : List ℕ) (lane k : ℕ) → 8 ≤ lane
-    → ◌≡◌ {A = After hearings.HearAnswer} (record { answer = hearings.TheVariants.Refused 4; held = h; air = air }) (hears_in h air lane k)
+    → ◌≡◌ {A = After hearings.HearAnswer} (record { answer = hearings.Refused 4; held = h; air = air }) (hears_in h air lane k)
 unfolding hears_in
 over_7 (whole y knowns) air lane k l = rw (lt-ltb 7 lane l)
 over_7 (other cells) air lane k l = rw (lt-ltb 7 lane l)
 
-pub hear_over_7 : (s air : List ℕ) (lane k : ℕ) → 8 ≤ lane → after (hearings.TheVariants.Refused 4) s air ≡ hears_in (held_in s) air lane k
+hear_over_7 : (s air : List ℕ) (lane k : ℕ) → 8 ≤ lane → after (hearings.Refused 4) s air ≡ hears_in (held_in s) air lane k
 hear_over_7 s air lane k l = over_7 (held_in s) air lane k l
 
-pub hear_short : (s air : List ℕ) (lane k : ℕ) → lane < 8 → (length s ≡ 4483 → ⊥)
-    → after (hearings.TheVariants.Refused 12) s air ≡ hears_in (held_in s) air lane k
+hear_short : (s air : List ℕ) (lane k : ℕ) → lane < 8 → (length s ≡ 4483 → ⊥)
+    → after (hearings.Refused 12) s air ≡ hears_in (held_in s) air lane k
 unfolding hears_in
 hear_short s air lane k l h = rw (held_other s h, le-ltb 7 lane (omega arith))
 
+pub hear_misplaced : (s air : List ℕ) (lane k n : ℕ) → n ≡ cond (ltb 7 lane) 4 (cond (eqb (length s) 4483) 0 12) → (n ≡ 0 → ⊥)
+    → after (hearings.Refused n) s air ≡ hears_in (held_in s) air lane k
+hear_misplaced s air lane k n e h = go (misplaced s lane n e h)
+  where
+    go : ((8 ≤ lane) × (n ≡ 4)) ⊎ ((lane < 8) × (length s ≡ 4483 → ⊥) × (n ≡ 12)) → after (hearings.Refused n) s air ≡ hears_in (held_in s) air lane k
+    go (inl x) = rw x.1 (hear_over_7 s air lane k x.0)
+    go (inr x) = rw x.2 (hear_short s air lane k x.0 x.1)
+
 -- over a whole yard
 stopped : (y : Yard) (ks : List (List ℕ)) (air : List ℕ) (lane k n : ℕ) → lane < 8 → n ≡ stops_hearing air (post_at y lane) y.frames k → (n ≡ 0 → ⊥)
-    → ◌≡◌ {A = After hearings.HearAnswer} (record { answer = hearings.TheVariants.Refused n; held = whole y ks; air = air }) (hears_in (whole y ks) air lane k)
+    → ◌≡◌ {A = After hearings.HearAnswer} (record { answer = hearings.Refused n; held = whole y ks; air = air }) (hears_in (whole y ks) air lane k)
 unfolding hears_in
 stopped y ks air lane k n l e h = rw (le-ltb 7 lane (omega arith), ← e, ne_eqb n 0 h)
 
@@ -50,7 +61,7 @@ runs y ks air exit lane k n frames d l e z ed ef ex = rw (le-ltb 7 lane (omega a
 
 -- on a state, whose row is lent
 pub hear_stopped : (s air : List ℕ) (lane k frames n : ℕ) → lane < 8 → length s ≡ 4483 → frames ≡ get_or s 2 0
-    → n ≡ stops_hearing air (post_in (lent_row s lane)) frames k → (n ≡ 0 → ⊥) → after (hearings.TheVariants.Refused n) s air ≡ hears_in (held_in s) air lane k
+    → n ≡ stops_hearing air (post_in (lent_row s lane)) frames k → (n ≡ 0 → ⊥) → after (hearings.Refused n) s air ≡ hears_in (held_in s) air lane k
 hear_stopped s air lane k frames n small long ef e h =
     let j : n ≡ stops_hearing air (post_in (row_of s lane)) (get_or s 2 0) k = rw (lent_is s lane, ef) at e in
     rw (held_whole s long) (stopped (yard_in s) (knowns_in s) air lane k n small (rw (at_yard s lane small, frames_in_lem s) j) h)

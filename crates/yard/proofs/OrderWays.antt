@@ -7,6 +7,7 @@ use native.Mathlib.Omega.{arith}
 use lib.Dec.{ltb, eqb}
 use lib.ListN.{length, get_or, set, length-set}
 use borrow.Author.Tests.{eq-eqb, ne_eqb, lt-ltb, le-ltb}
+use Rattle.frame.specs.Layout.{no_frame}
 use Rattle.frame.specs.declared.Frame.{Frame}
 use Rattle.air.specs.Air.{place_refusal, frames_with}
 use Rattle.air.proofs.Laws.{has_place}
@@ -18,7 +19,7 @@ use Rattle.deliver.specs.Known.{delivered_from}
 use Rattle.steps.specs.Refusals.{order_refusal}
 use Rattle.steps.specs.Steps.{order_sent, order_step}
 use Rattle.steps.specs.Knowing.{Stepped, stepped, orders_by}
-use Rattle.steps.specs.declared.OrderAnswer as orders
+use Rattle.steps.specs.OrderAnswer as orders
 use Rattle.state.specs.Yards.{Yard, post_at}
 use Rattle.state.specs.Changed.{with_post}
 use Rattle.yard.specs.Singles.{frames_after}
@@ -26,34 +27,34 @@ use Rattle.state.specs.States.{Held, whole, other, row_of, yard_in, knowns_in, h
 use Rattle.yard.specs.InState.{After, after, with_order, orders_in}
 use Rattle.row.proofs.LentParts.{put_part}
 use Rattle.state.proofs.StateLaws.{held_whole, held_other, at_yard, at_knowns, frames_in_lem, front_cell, row_long, row_yard, row_knowns, lent_row, row_back, lent_is, back_is, lent_length, frames_yard, frames_knowns, with_first, first_held}
-use Rattle.yard.proofs.PartWays.{Sends, Noted, no_kind}
+use Rattle.yard.proofs.PartWays.{Sends, Noted, no_kind, none_sent_lem, first_kept}
 
 -- refused: 4, 5, 12, 13
 over_7 : (h : Held) (air : List ℕ) (lane word : ℕ) → 8 ≤ lane
-    → ◌≡◌ {A = After orders.OrderAnswer} (record { answer = orders.TheVariants.Refused 4; held = h; air = air }) (orders_in h air lane word)
+    → ◌≡◌ {A = After orders.OrderAnswer} (record { answer = orders.Refused 4; held = h; air = air }) (orders_in h air lane word)
 unfolding orders_in
 over_7 (whole y knowns) air lane word l = rw (lt-ltb 7 lane l)
 over_7 (other cells) air lane word l = rw (lt-ltb 7 lane l)
 
-pub order_over_7 : (s air : List ℕ) (lane word : ℕ) → 8 ≤ lane → after (orders.TheVariants.Refused 4) s air ≡ orders_in (held_in s) air lane word
+pub order_over_7 : (s air : List ℕ) (lane word : ℕ) → 8 ≤ lane → after (orders.Refused 4) s air ≡ orders_in (held_in s) air lane word
 order_over_7 s air lane word l = over_7 (held_in s) air lane word l
 
 large : (h : Held) (air : List ℕ) (lane word : ℕ) → lane < 8 → 65535 < word
-    → ◌≡◌ {A = After orders.OrderAnswer} (record { answer = orders.TheVariants.Refused 5; held = h; air = air }) (orders_in h air lane word)
+    → ◌≡◌ {A = After orders.OrderAnswer} (record { answer = orders.Refused 5; held = h; air = air }) (orders_in h air lane word)
 unfolding orders_in
 large (whole y knowns) air lane word l w = rw (le-ltb 7 lane (omega arith), lt-ltb 65535 word w)
 large (other cells) air lane word l w = rw (le-ltb 7 lane (omega arith), lt-ltb 65535 word w)
 
-pub order_large : (s air : List ℕ) (lane word : ℕ) → lane < 8 → 65535 < word → after (orders.TheVariants.Refused 5) s air ≡ orders_in (held_in s) air lane word
+pub order_large : (s air : List ℕ) (lane word : ℕ) → lane < 8 → 65535 < word → after (orders.Refused 5) s air ≡ orders_in (held_in s) air lane word
 order_large s air lane word l w = large (held_in s) air lane word l w
 
 pub order_short : (s air : List ℕ) (lane word : ℕ) → lane < 8 → word ≤ 65535 → (length s ≡ 4483 → ⊥)
-    → after (orders.TheVariants.Refused 12) s air ≡ orders_in (held_in s) air lane word
+    → after (orders.Refused 12) s air ≡ orders_in (held_in s) air lane word
 unfolding orders_in
 order_short s air lane word l w h = rw (held_other s h, le-ltb 7 lane (omega arith), le-ltb 65535 word w)
 
 pub order_no_air : (s air : List ℕ) (lane word : ℕ) → lane < 8 → word ≤ 65535 → length s ≡ 4483 → (length air ≡ 65536 → ⊥)
-    → after (orders.TheVariants.Refused 13) s air ≡ orders_in (held_in s) air lane word
+    → after (orders.Refused 13) s air ≡ orders_in (held_in s) air lane word
 unfolding orders_in
 order_no_air s air lane word l w h a = rw (held_whole s h, le-ltb 7 lane (omega arith), le-ltb 65535 word w, ne_eqb (length air) 65536 a)
 
@@ -135,3 +136,12 @@ pub order_runs : (s row t m air exit : List ℕ) (lane word frames : ℕ) (g : F
     → after a m exit ≡ orders_in (held_in s) air lane word
 order_runs s row t m air exit lane word frames g a small w long la lr ef ed es em =
     order_row s row t m air exit lane word frames g a small w long la (lr ∙ lent_length s lane long small) (ef ∙ sym (frames_in_lem s)) (rw (lent_is s lane) at ed) (rw (back_is s lane row) at es) em
+
+-- where the step refuses nothing is broadcast or noted
+pub order_stops : (s row air : List ℕ) (lane word : ℕ) (a : orders.OrderAnswer) → lane < 8 → word ≤ 65535 → length s ≡ 4483 → length air ≡ 65536
+    → length row ≡ length (lent_row s lane) → stepped a row no_frame ≡ orders_by (known_in (lent_row s lane)) (post_in (lent_row s lane)) word
+    → after a (row_back s lane row) air ≡ orders_in (held_in s) air lane word
+order_stops s row air lane word a small w long la lr ed =
+    let t : List ℕ = row_back s lane row in
+    let same : get_or t 2 0 ≡ get_or s 2 0 = rw (back_is s lane row) (front_cell s lane row long small (lr ∙ lent_length s lane long small) 2 (omega arith)) in
+    order_runs s row t t air air lane word (get_or s 2 0) no_frame a small w long la lr refl ed (none_sent_lem t air no_frame refl) (first_kept t lane 0 (get_or s 2 0) (get_or s 2 0) (sym same) (omega arith))

@@ -6,9 +6,9 @@ use Rattle.cells.specs.Tables.{order_place}
 use Rattle.post.specs.declared.Post.{Post}
 use Rattle.steps.specs.Steps.{beacon_step}
 use Rattle.steps.specs.Knowing.{orders_by, hears_by}
-use Rattle.steps.specs.declared.OrderAnswer as orders
-use Rattle.steps.specs.declared.HearAnswer as hearings
-use Rattle.steps.specs.declared.BeaconAnswer as beaconing
+use Rattle.steps.specs.OrderAnswer as orders
+use Rattle.steps.specs.HearAnswer as hearings
+use Rattle.steps.specs.BeaconAnswer as beaconing
 use Rattle.state.specs.Yards.{Yard, post_at, beacons_at}
 use Rattle.state.specs.Changed.{with_post, with_beacons}
 use Rattle.yard.specs.Singles.{frames_after, stops_order, stops_hearing, frame_at, stops_beacon}
@@ -40,7 +40,7 @@ with_order y lane p frames = record {
 
 unfoldable pub orders_in : Held → List ℕ → ℕ → ℕ → After orders.OrderAnswer
 orders_in (other cells) air lane word = record {
-  answer = orders.TheVariants.Refused (cond (ltb 7 lane) 4 (cond (ltb 65535 word) 5 12));
+  answer = orders.Refused (cond (ltb 7 lane) 4 (cond (ltb 65535 word) 5 12));
   held = other cells;
   air = air;
 }
@@ -53,12 +53,12 @@ orders_in (whole y knowns) air lane word =
       held = whole (with_order y lane s.post (frames_after air y.frames s.frame)) (set knowns lane s.known);
       air = frames_with air y.frames s.frame;
     })
-    (record { answer = orders.TheVariants.Refused number; held = whole y knowns; air = air })
+    (record { answer = orders.Refused number; held = whole y knowns; air = air })
 
 -- ---- hear: 4, 12, 13, 21 and 25, what reading refuses, then 21, 24, 26 and 28 to 30 of the post's own step
 
 unfoldable pub hears_in : Held → List ℕ → ℕ → ℕ → After hearings.HearAnswer
-hears_in (other cells) air lane k = record { answer = hearings.TheVariants.Refused (cond (ltb 7 lane) 4 12); held = other cells; air = air }
+hears_in (other cells) air lane k = record { answer = hearings.Refused (cond (ltb 7 lane) 4 12); held = other cells; air = air }
 hears_in (whole y knowns) air lane k =
     let number = cond (ltb 7 lane) 4 (stops_hearing air (post_at y lane) y.frames k) in
     let s = hears_by (get_or knowns lane []) (post_at y lane) (frame_at air k) in
@@ -68,12 +68,12 @@ hears_in (whole y knowns) air lane k =
       held = whole (with_post y lane s.post (frames_after air y.frames s.frame)) (set knowns lane s.known);
       air = frames_with air y.frames s.frame;
     })
-    (record { answer = hearings.TheVariants.Refused number; held = whole y knowns; air = air })
+    (record { answer = hearings.Refused number; held = whole y knowns; air = air })
 
 -- ---- beacon: 4, 12, 13, 21, 27
 
 unfoldable pub beacons_in : Held → List ℕ → ℕ → After beaconing.BeaconAnswer
-beacons_in (other cells) air lane = record { answer = beaconing.TheVariants.Refused (cond (ltb 7 lane) 4 12); held = other cells; air = air }
+beacons_in (other cells) air lane = record { answer = beaconing.Refused (cond (ltb 7 lane) 4 12); held = other cells; air = air }
 beacons_in (whole y knowns) air lane =
     let number = cond (ltb 7 lane) 4 (stops_beacon air (post_at y lane) (beacons_at y lane)) in
     let s = beacon_step (post_at y lane) in
@@ -83,7 +83,7 @@ beacons_in (whole y knowns) air lane =
       held = whole (with_beacons y (frames_after air y.frames s.frame) (set y.beacons lane (beacons_at y lane + 1))) knowns;
       air = frames_with air y.frames s.frame;
     })
-    (record { answer = beaconing.TheVariants.Refused number; held = whole y knowns; air = air })
+    (record { answer = beaconing.Refused number; held = whole y knowns; air = air })
 
 -- ---- a list of single steps run one after another
 

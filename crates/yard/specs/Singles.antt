@@ -8,9 +8,9 @@ use Rattle.cells.specs.Tables.{order_place}
 use Rattle.post.specs.declared.Post.{Post}
 use Rattle.steps.specs.Refusals.{not_in_yard}
 use Rattle.steps.specs.Steps.{order_step, hear_step, beacon_step}
-use Rattle.steps.specs.declared.OrderAnswer as orders
-use Rattle.steps.specs.declared.HearAnswer as hearings
-use Rattle.steps.specs.declared.BeaconAnswer as beaconing
+use Rattle.steps.specs.OrderAnswer as orders
+use Rattle.steps.specs.HearAnswer as hearings
+use Rattle.steps.specs.BeaconAnswer as beaconing
 use Rattle.state.specs.Yards.{Yard, post_at, beacons_at, spent}
 use Rattle.state.specs.Changed.{with_post, with_beacons}
 
@@ -62,7 +62,7 @@ post_orders air p frames word =
       post = (order_step p word).post;
       frames = frames_after air frames (order_step p word).frame;
     })
-    (record { answer = orders.TheVariants.Refused (stops_order air word); post = p; frames = frames })
+    (record { answer = orders.Refused (stops_order air word); post = p; frames = frames })
 
 -- the air after it
 unfoldable pub post_orders_air : List ℕ → Post → ℕ → ℕ → List ℕ
@@ -88,7 +88,7 @@ yard_orders air y lane word =
         first = first_after y lane s;
       };
     })
-    (record { answer = orders.TheVariants.Refused 4; yard = y })
+    (record { answer = orders.Refused 4; yard = y })
 
 -- the air after it
 unfoldable pub yard_orders_air : List ℕ → Yard → ℕ → ℕ → List ℕ
@@ -119,7 +119,7 @@ post_hears air p frames k =
       post = (hear_step p (frame_at air k)).post;
       frames = frames_after air frames (hear_step p (frame_at air k)).frame;
     })
-    (record { answer = hearings.TheVariants.Refused (stops_hearing air p frames k); post = p; frames = frames })
+    (record { answer = hearings.Refused (stops_hearing air p frames k); post = p; frames = frames })
 
 -- the air after it
 unfoldable pub post_hears_air : List ℕ → Post → ℕ → ℕ → List ℕ
@@ -130,7 +130,7 @@ unfoldable pub yard_hears : List ℕ → Yard → ℕ → ℕ → YardHeard
 yard_hears air y lane k =
     let s = post_hears air (post_at y lane) y.frames k in
     cond (ltb lane 8) (record { answer = s.answer; yard = with_post y lane s.post s.frames })
-    (record { answer = hearings.TheVariants.Refused 4; yard = y })
+    (record { answer = hearings.Refused 4; yard = y })
 
 -- the air after it
 unfoldable pub yard_hears_air : List ℕ → Yard → ℕ → ℕ → List ℕ
@@ -147,7 +147,7 @@ unfoldable pub post_beacons : List ℕ → Post → ℕ → ℕ → PostBeaconed
 post_beacons air p frames beacons =
     cond (eqb (stops_beacon air p beacons) 0)
     (record { answer = (beacon_step p).answer; frames = frames_after air frames (beacon_step p).frame; beacons = beacons + 1 })
-    (record { answer = beaconing.TheVariants.Refused (stops_beacon air p beacons); frames = frames; beacons = beacons })
+    (record { answer = beaconing.Refused (stops_beacon air p beacons); frames = frames; beacons = beacons })
 
 -- the air after it
 unfoldable pub post_beacons_air : List ℕ → Post → ℕ → ℕ → List ℕ
@@ -158,7 +158,7 @@ unfoldable pub yard_beacons : List ℕ → Yard → ℕ → YardBeaconed
 yard_beacons air y lane =
     let s = post_beacons air (post_at y lane) y.frames (beacons_at y lane) in
     cond (ltb lane 8) (record { answer = s.answer; yard = with_beacons y s.frames (set y.beacons lane s.beacons) })
-    (record { answer = beaconing.TheVariants.Refused 4; yard = y })
+    (record { answer = beaconing.Refused 4; yard = y })
 
 -- the air after it
 unfoldable pub yard_beacons_air : List ℕ → Yard → ℕ → List ℕ

@@ -5,103 +5,82 @@
 mod parts;
 
 ghost use Rattle.std.specs.Prelude.{◌≡◌};
-ghost use Rattle.steps.specs.Answers.{order_number, hear_number, beacon_number};
+ghost use Rattle.refusal.specs.Numbers.{refused_with};
+ghost use Rattle.steps.specs.OrderAnswer.{order_answer};
+ghost use Rattle.steps.specs.HearAnswer.{hear_answer};
+ghost use Rattle.steps.specs.BeaconAnswer.{beacon_answer};
 ghost use Rattle.steps.specs.Values.{order_serial, order_stamp, order_count, hear_count};
 ghost use Rattle.state.specs.States.{held_in};
 ghost use Rattle.yard.specs.InState.{after, orders_in, hears_in, beacons_in};
 ghost use Rattle.yard.specs.Answers.{order_refusal_in, order_serial_in, order_stamp_in, order_count_in, hear_refusal_in, hear_count_in, beacon_refusal_in};
 
-use steps::{BeaconAnswer, HearAnswer, OrderAnswer};
+use refusal::Refusal;
+use steps::{Hearing, RowHeard, RowOrdered, Sent};
 
-// The last word, and how many beacons each post may send.
-pub const LAST_WORD: usize = 65535;
-
+// How many beacons each post may send.
 pub const BEACONS: u16 = 128;
 
 // Order (lane, word) in the yard (4, 5, 12, 13, then 21 to 24).
-pub fn order(state: &mut [u16], air: &mut [u8], lane: usize, word: usize) -> OrderAnswer
-    ensures air_after { after result state.new air.new ≡ orders_in (held_in state.old) air.old lane word }
-    ensures number { order_number result ≡ order_refusal_in (held_in state.old) air.old lane word }
-    ensures serial { order_serial result ≡ order_serial_in (held_in state.old) air.old lane word }
-    ensures stamp { order_stamp result ≡ order_stamp_in (held_in state.old) air.old lane word }
-    ensures count { order_count result ≡ order_count_in (held_in state.old) air.old lane word }
+pub fn order(state: &mut [u16], air: &mut [u8], lane: usize, word: usize) -> Result<Sent, Refusal>
+    ensures air_after { after (order_answer result) state.new air.new ≡ orders_in (held_in state.old) air.old lane word }
+    ensures number { refused_with result ≡ order_refusal_in (held_in state.old) air.old lane word }
+    ensures serial { order_serial (order_answer result) ≡ order_serial_in (held_in state.old) air.old lane word }
+    ensures stamp { order_stamp (order_answer result) ≡ order_stamp_in (held_in state.old) air.old lane word }
+    ensures count { order_count (order_answer result) ≡ order_count_in (held_in state.old) air.old lane word }
 {
     if state::LANES <= lane {
-        return OrderAnswer::Refused(4);
+        return Err(Refusal::LaneOver7);
     }
-    if LAST_WORD < word {
-        return OrderAnswer::Refused(5);
-    }
+    let Ok(word) = u16::try_from(word) else {
+        return Err(Refusal::WordTooLarge);
+    };
     if state.len() != state::LENGTH {
-        return OrderAnswer::Refused(12);
+        return Err(Refusal::BadRecord);
     }
     if air.len() != air::LENGTH {
-        return OrderAnswer::Refused(13);
+        return Err(Refusal::BadAir);
     }
-    let a = state::ROWS + row::LENGTH * lane;
-    let e = a + row::LENGTH;
+    let start = state::ROWS + row::LENGTH * lane;
     let frames = row::get(state, state::FRAMES);
-    let done = steps::order(&mut state[a..e], word as u16);
-    let sent = done.frame;
-    let serial = sent.serial;
-    parts::broadcast(state, air, sent);
-    parts::note_first(state, lane as u8, serial, frames);
-    let answer = done.answer;
-    answer
+    let RowOrdered { sent, frame } = steps::order(&mut state[start..start + row::LENGTH], word)?;
+    parts::broadcast(state, air, frame);
+    parts::note_first(state, lane as u8, frame.serial, frames);
+    Ok(sent)
 }
 
 // Hear (lane, frame k) in the yard (4, 12, 13, 21, 25, 26; in a sound yard nothing else of what the post's step judges arises).
-pub fn hear(state: &mut [u16], air: &mut [u8], lane: usize, k: usize) -> HearAnswer
-    ensures air_after { after result state.new air.new ≡ hears_in (held_in state.old) air.old lane k }
-    ensures number { hear_number result ≡ hear_refusal_in (held_in state.old) air.old lane k }
-    ensures count { hear_count result ≡ hear_count_in (held_in state.old) air.old lane k }
+pub fn hear(state: &mut [u16], air: &mut [u8], lane: usize, k: usize) -> Result<Hearing, Refusal>
+    ensures air_after { after (hear_answer result) state.new air.new ≡ hears_in (held_in state.old) air.old lane k }
+    ensures number { refused_with result ≡ hear_refusal_in (held_in state.old) air.old lane k }
+    ensures count { hear_count (hear_answer result) ≡ hear_count_in (held_in state.old) air.old lane k }
 {
-    if state::LANES <= lane {
-        return HearAnswer::Refused(4);
-    }
-    if state.len() != state::LENGTH {
-        return HearAnswer::Refused(12);
-    }
-    let a = state::ROWS + row::LENGTH * lane;
-    let e = a + row::LENGTH;
+    parts::check(state, lane)?;
+    let start = state::ROWS + row::LENGTH * lane;
     let frames = row::get(state, state::FRAMES);
-    let got = parts::frame_for(&state[a..e], air, frames, k);
-    if got.refusal != 0 {
-        return HearAnswer::Refused(got.refusal);
+    let heard = parts::frame_for(&state[start..start + row::LENGTH], air, frames, k)?;
+    let RowHeard { hearing, frame } = steps::hear(&mut state[start..start + row::LENGTH], heard)?;
+    if let Some(passed_on) = frame {
+        parts::broadcast(state, air, passed_on);
     }
-    let heard = got.frame;
-    let done = steps::hear(&mut state[a..e], heard);
-    let answer = done.answer;
-    if done.frame.kind == 0 {
-        return answer;
-    }
-    let passed_on = done.frame;
-    parts::broadcast(state, air, passed_on);
-    answer
+    Ok(hearing)
 }
 
 // Beacon (lane) in the yard (4, 12, 13, 21, 27).
-pub fn beacon(state: &mut [u16], air: &mut [u8], lane: usize) -> BeaconAnswer
-    ensures air_after { after result state.new air.new ≡ beacons_in (held_in state.old) air.old lane }
-    ensures number { beacon_number result ≡ beacon_refusal_in (held_in state.old) air.old lane }
+pub fn beacon(state: &mut [u16], air: &mut [u8], lane: usize) -> Result<(), Refusal>
+    ensures air_after { after (beacon_answer result) state.new air.new ≡ beacons_in (held_in state.old) air.old lane }
+    ensures number { refused_with result ≡ beacon_refusal_in (held_in state.old) air.old lane }
 {
-    if state::LANES <= lane {
-        return BeaconAnswer::Refused(4);
+    parts::check(state, lane)?;
+    if air.len() != air::LENGTH {
+        return Err(Refusal::BadAir);
     }
-    if state.len() != state::LENGTH {
-        return BeaconAnswer::Refused(12);
+    let start = state::ROWS + row::LENGTH * lane;
+    let frame = steps::beacon(&state[start..start + row::LENGTH])?;
+    let sent = row::get_in(state, state::BEACONS_SENT, row::LANES, lane);
+    if BEACONS <= sent {
+        return Err(Refusal::BeaconsSpent);
     }
-    let a = state::ROWS + row::LENGTH * lane;
-    let e = a + row::LENGTH;
-    let sent = row::get_in(state, state::BEACONS_SENT, 8, lane);
-    let number = parts::beacon_refusal(&state[a..e], air, sent);
-    if number != 0 {
-        return BeaconAnswer::Refused(number);
-    }
-    let done = steps::beacon(&state[a..e]);
-    let beacon_frame = done.frame;
-    row::put_in(state, state::BEACONS_SENT, 8, lane, sent + 1);
-    parts::broadcast(state, air, beacon_frame);
-    let answer = done.answer;
-    answer
+    row::put_in(state, state::BEACONS_SENT, row::LANES, lane, sent + 1);
+    parts::broadcast(state, air, frame);
+    Ok(())
 }

@@ -11,5 +11,5 @@ returns-then-k-bytes c = let w = write_no_place c.args.bytes.now c.args.k c.args
 pub returns : goal.returns
 returns c =
     let width : 32 * c.args.k + 32 - 32 * c.args.k ≡ 32 = add-sub_cancel_left (32 * c.args.k) 32 in
-    let w = write_part c.args.bytes.now _ c.write.new.buffer c.args.k c.write.result c.args.f (rw width refl) c.write.ensures.number c.write.ensures.bytes in
+    let w = write_part c.args.bytes.now _ c.write.new.buffer c.args.k _ c.args.f (rw width refl) c.write.ensures.number c.write.ensures.bytes in
     record { number = w.0; bytes = rw width w.1 }

@@ -1,5 +1,8 @@
-use Rattle.std.proofs.Common.{length, ◌-◌}
+use Rattle.std.proofs.Common.{length, ◌+◌, ◌≤◌}
 use Rattle.bench.proofs.run_file.Given as goal
 
-abbrev pub decreases-loop-at : goal.decreases-loop-at
-decreases-loop-at l = length l.file - l.at
+abbrev pub invariant-loop-input : goal.invariant-loop-input
+invariant-loop-input l = (l.cases + length l.rest ≤ length l.file) × (l.same ≤ l.cases)
+
+abbrev pub decreases-loop-input : goal.decreases-loop-input
+decreases-loop-input l = length l.rest

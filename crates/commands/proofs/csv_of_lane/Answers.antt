@@ -1,30 +1,37 @@
 use native.Mathlib.Omega.{arith}
-use mathlib.Core.Path.{refl}
-use Rattle.commands.proofs.LaneFiles.{made_bad, made_4, made_6, made_lane}
+use mathlib.Core.Path.{refl, sym, ap, ◌∙◌}
+use Rattle.lines.specs.Judged.{Judged}
+use Rattle.refusal.proofs.Refused.{never_0}
+use Rattle.commands.proofs.LaneFiles.{made_bad, made_4, made_6, made_lane, handed_line, handed_lane}
 use Rattle.commands.proofs.csv_of_lane.Goals as goal
 
-pub returns-then-verdict-ne0 : goal.returns-then-verdict-ne0
-returns-then-verdict-ne0 c =
-    let made = made_bad c.args.script.now c.args.buffer.now c.args.lane c.judge-verdict.result c.judge-verdict.ensures c.if-verdict-ne0.true in
-    record { value = rw c.not_made.ensures made.0; bytes = made.1 }
+pub returns-in_err-judge : goal.returns-in_err-judge
+returns-in_err-judge c =
+    let made = made_bad c.args.script.now c.args.buffer.now c.args.lane _ c.in_err-judge.ensures (never_0 _) in
+    record { value = handed_line _ _ c.from_residual.ensures.1 ∙ made.0; bytes = made.1 }
 
-pub returns-then-lane : goal.returns-then-lane
-returns-then-lane c =
-    let made = made_4 c.args.script.now c.args.buffer.now c.args.lane c.judge-verdict.result c.judge-verdict.ensures c.if-verdict-ne0.false c.if-lane.true in
-    record { value = rw c.not_made-then-lane.ensures made.0; bytes = made.1 }
+pub returns-then-lane-from : goal.returns-then-lane-from
+returns-then-lane-from c =
+    let made = made_4 c.args.script.now c.args.buffer.now c.args.lane _ c.in_ok-judge.ensures refl (omega arith) in
+    record { value = rw c.from-then-lane-from.ensures made.0; bytes = made.1 }
 
 pub returns-then-buffer-ne-BUFFER : goal.returns-then-buffer-ne-BUFFER
 returns-then-buffer-ne-BUFFER c =
-    let made = made_6 c.args.script.now c.args.buffer.now c.args.lane c.judge-verdict.result c.judge-verdict.ensures c.if-verdict-ne0.false c.if-lane.false c.if-buffer-ne-BUFFER.true in
-    record { value = rw c.not_made-then-buffer-ne-BUFFER.ensures made.0; bytes = made.1 }
+    let made = made_6 c.args.script.now c.args.buffer.now c.args.lane _ c.in_ok-judge.ensures refl (omega arith) c.if-buffer-ne-BUFFER.true in
+    record { value = rw c.from-then-buffer-ne-BUFFER.ensures made.0; bytes = made.1 }
+
+pub returns-in_err-length : goal.returns-in_err-length
+returns-in_err-length c =
+    let both = made_lane _ _ _ c.args.lane _ _ _ c.in_ok-judge.ensures refl (omega arith) c.if-buffer-ne-BUFFER.false c.run.ensures (c.in_err-length.ensures.value, c.in_err-length.ensures.bytes) in
+    record { value = handed_lane _ _ c.from_residual-in_err-length.ensures.1 ∙ both.0; bytes = both.1 }
 
 pub returns : goal.returns
 returns c =
-    let both = made_lane _ _ _ _ _ _ _ c.judge-verdict.ensures c.if-verdict-ne0.false c.if-lane.false c.if-buffer-ne-BUFFER.false c.run.ensures (c.put_lane.ensures.value, c.put_lane.ensures.bytes) in
+    let both = made_lane _ _ _ c.args.lane _ _ _ c.in_ok-judge.ensures refl (omega arith) c.if-buffer-ne-BUFFER.false c.run.ensures (c.in_ok-length.ensures.value, c.in_ok-length.ensures.bytes) in
     record { value = both.0; bytes = both.1 }
 
 pub run-requires : goal.run-requires
-run-requires c = (rw (← c.judge-verdict.ensures) c.if-verdict-ne0.false, refl)
+run-requires c = sym (ap (λ (j : Judged). j.number) c.in_ok-judge.ensures)
 
 pub put_lane-requires : goal.put_lane-requires
-put_lane-requires c = (c.run.auto.state, omega arith)
+put_lane-requires c = omega arith

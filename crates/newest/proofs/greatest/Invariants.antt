@@ -1,10 +1,6 @@
+use Rattle.std.proofs.Common.{◌≡◌}
 use Rattle.newest.specs.Loops.{greatest_below}
-use Prim.Native.Nat.{◌≤◌, ◌-◌}
-use mathlib.Core.Path.{◌≡◌}
 use Rattle.newest.proofs.greatest.Given as goal
 
-abbrev pub invariant-loop-serial : goal.invariant-loop-serial
-invariant-loop-serial l = (l.serial ≤ 17) × (l.stamp.0 ≡ greatest_below l.table l.first l.serial)
-
-abbrev pub decreases-loop-serial : goal.decreases-loop-serial
-decreases-loop-serial l = 17 - l.serial
+abbrev pub invariant-loop-stamp : goal.invariant-loop-stamp
+invariant-loop-stamp l = l.greatest ≡ greatest_below l.stamps 0 l.stamp-index

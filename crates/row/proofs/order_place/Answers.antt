@@ -1,16 +1,9 @@
-use Rattle.cells.specs.Tables.{order_place}
-use native.Mathlib.Omega.{arith}
-use borrow.Author.Tests.{le-leb, lt-leb, lt-ltb, le-ltb}
+use Rattle.std.proofs.Common.{sym, arith, inl, inr}
+use Rattle.cells.proofs.Places.{order_place_lem, order_none}
 use Rattle.row.proofs.order_place.Goals as goal
 
 pub returns-then-serial-eq0 : goal.returns-then-serial-eq0
-unfolding order_place
-returns-then-serial-eq0 c = rw (le-ltb 0 c.args.serial.0 (omega (arith, c.if-serial-eq0.true)))
+returns-then-serial-eq0 c = sym (order_none c.args.lane c.args.serial.0 (λ h. elim c.then-serial-eq0.either [ inl e ↦ omega arith | inr e ↦ omega arith ]))
 
-pub returns-then-serial-le-LAST_SERIAL : goal.returns-then-serial-le-LAST_SERIAL
-unfolding order_place
-returns-then-serial-le-LAST_SERIAL c = rw (lt-ltb 0 c.args.serial.0 (omega (arith, c.if-serial-eq0.false)), le-leb _ 16 c.if-serial-le-LAST_SERIAL.true)
-
-pub returns-else-serial-le-LAST_SERIAL : goal.returns-else-serial-le-LAST_SERIAL
-unfolding order_place
-returns-else-serial-le-LAST_SERIAL c = rw (lt-ltb 0 c.args.serial.0 (omega (arith, c.if-serial-eq0.false)), lt-leb _ 16 c.if-serial-le-LAST_SERIAL.false)
+pub returns : goal.returns
+returns c = sym (order_place_lem c.args.lane c.args.serial.0 (omega arith) (omega arith))

@@ -1,32 +1,22 @@
 use native.Mathlib.Omega.{arith}
-use Rattle.scan.proofs.NumberLaws.{reading_start, reading_fits, reading_next, reading_end}
+use mathlib.Core.Logic.{inl, inr}
+use Rattle.scan.proofs.NumberLaws.{reading_start, reading_small, reading_next, reading_end}
 use Rattle.scan.proofs.more_digits.Goals as goal
 
-pub loop-left-init : goal.loop-left-init
-loop-left-init c = let p = c.requires in (c.byte_at-x.ensures, reading_start _ _ p.0 p.1 p.2)
+pub loop-init : goal.loop-init
+loop-init c = reading_start _ _ c.requires.ok c.requires.above c.requires.below
 
-pub overflow_add-at : goal.overflow_add-at
-overflow_add-at c = let i = c.loop-left.invariant in omega (arith, reading_fits _ _ _ _ _ _ _ i.1 i.0 c.is_digit.ensures c.loop-left-test.true)
+pub overflow_mul-n : goal.overflow_mul-n
+overflow_mul-n c = omega (arith, reading_small _ _ _ _ c.loop.invariant c.loop-test.true)
 
-pub overflow_mul-value : goal.overflow_mul-value
-overflow_mul-value c = let i = c.loop-left.invariant in omega (arith, reading_fits _ _ _ _ _ _ _ i.1 i.0 c.is_digit.ensures c.loop-left-test.true)
+pub overflow_add-n-in-loop : goal.overflow_add-n-in-loop
+overflow_add-n-in-loop c = omega (arith, reading_small _ _ _ _ c.loop.invariant c.loop-test.true)
 
-pub overflow_sub-value : goal.overflow_sub-value
-overflow_sub-value c = let i = c.loop-left.invariant in omega (arith, reading_fits _ _ _ _ _ _ _ i.1 i.0 c.is_digit.ensures c.loop-left-test.true)
+pub loop-preserved : goal.loop-preserved
+loop-preserved c = reading_next _ _ _ _ _ c.loop.invariant c.loop-test.true c.in-Some.ensures.value c.in-Some.ensures.within.1
 
-pub overflow_add-value : goal.overflow_add-value
-overflow_add-value c = let i = c.loop-left.invariant in omega (arith, reading_fits _ _ _ _ _ _ _ i.1 i.0 c.is_digit.ensures c.loop-left-test.true)
+pub returns-after-loop : goal.returns-after-loop
+returns-after-loop c = reading_end _ _ _ _ c.loop.invariant (inl (omega arith))
 
-pub overflow_sub-left : goal.overflow_sub-left
-overflow_sub-left c = let i = c.loop-left.invariant in omega (arith, reading_fits _ _ _ _ _ _ _ i.1 i.0 c.is_digit.ensures c.loop-left-test.true)
-
-pub loop-left-smaller : goal.loop-left-smaller
-loop-left-smaller c = let i = c.loop-left.invariant in omega (arith, reading_fits _ _ _ _ _ _ _ i.1 i.0 c.is_digit.ensures c.loop-left-test.true)
-
-pub loop-left-preserved : goal.loop-left-preserved
-loop-left-preserved c =
-    let i = c.loop-left.invariant in
-    (c.byte_at-x-in-loop-left.ensures, reading_next _ _ _ _ _ _ _ i.1 i.0 c.is_digit.ensures c.loop-left-test.true)
-
-pub returns : goal.returns
-returns c = let i = c.loop-left.invariant in reading_end _ _ _ _ _ _ _ i.1 i.0 c.is_digit.ensures c.loop-left-test.false
+pub returns-in_default : goal.returns-in_default
+returns-in_default c = reading_end _ _ _ _ c.loop.invariant (inr c.in_default.ensures.value)

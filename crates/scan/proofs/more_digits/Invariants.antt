@@ -1,10 +1,6 @@
-use mathlib.Core.Path.{◌≡◌}
-use lib.ListN.{get_or}
+use Prim.Native.Nat.{◌-◌}
 use Rattle.scan.proofs.NumberLaws.{Reading}
 use Rattle.scan.proofs.more_digits.Given as goal
 
-abbrev pub invariant-loop-left : goal.invariant-loop-left
-invariant-loop-left l = (l.x ≡ get_or l.s l.at 0) × Reading l.s l.c l.left l.at l.value
-
-abbrev pub decreases-loop-left : goal.decreases-loop-left
-decreases-loop-left l = l.left
+abbrev pub invariant-loop : goal.invariant-loop
+invariant-loop l = Reading l.s l.fn.c (4 - l.counter) l.n

@@ -1,15 +1,17 @@
 use native.Mathlib.Omega.{arith}
-use Rattle.scan.proofs.TextLaws.{text_stop, text_yes, text_no, text_fits}
+use mathlib.Core.Path.{sym}
+use mathlib.Core.Logic.{inl, inr}
+use Rattle.scan.proofs.TextLaws.{stands_in, text_yes, text_no}
 use Rattle.scan.proofs.read_text.Goals as goal
-
-pub returns-then-not-c : goal.returns-then-not-c
-returns-then-not-c c = text_stop _ _ _ c.if-not-c.true
+use Rattle.scan.proofs.read_text.Goals.{else-c-via-then-c+else-stands_at, else-c-via-else-c}
 
 pub overflow_add-result : goal.overflow_add-result
-overflow_add-result c = omega (arith, text_fits _ _ _ _ c.stands_at-here.ensures c.if-here.true)
+overflow_add-result c = omega (arith, stands_in _ _ _ (sym c.if-stands_at.ensures))
 
-pub returns-then-here : goal.returns-then-here
-returns-then-here c = text_yes _ _ _ _ c.stands_at-here.ensures c.if-not-c.false c.if-here.true
+pub returns-then-stands_at : goal.returns-then-stands_at
+returns-then-stands_at c = text_yes _ _ _ c.if-c.true c.if-stands_at.ensures
 
-pub returns-else-here : goal.returns-else-here
-returns-else-here c = text_no _ _ _ _ _ c.stands_at-here.ensures c.if-here.false c.fail.ensures
+pub returns-else-c : goal.returns-else-c
+returns-else-c c =
+    text_no _ _ _ _ c.fail.ensures
+    (elim c.else-c.branch [ else-c-via-then-c+else-stands_at w ↦ inr w.if-stands_at.ensures | else-c-via-else-c w ↦ inl w.if-c.false ])

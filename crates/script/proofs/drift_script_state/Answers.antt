@@ -1,21 +1,23 @@
-use Rattle.script.proofs.ScriptWays.{other_state, bad_told, good_told}
-use native.Mathlib.Omega.{arith}
+use Rattle.script.proofs.ScriptWays.{passed, passed_good, other_state, bad_told, good_told}
+use Rattle.refusal.proofs.Refused.{never_0}
 use Rattle.script.proofs.drift_script_state.Goals as goal
 
-pub returns-then-state-ne-LENGTH : goal.returns-then-state-ne-LENGTH
-returns-then-state-ne-LENGTH c =
-    let both = other_state c.args.script.now c.args.air.now c.args.state.now c.told.result (λ e. omega (arith, c.if-state-ne-LENGTH.true)) c.told.ensures.value in
+pub returns-in_default : goal.returns-in_default
+returns-in_default c =
+    let both = other_state c.args.script.now c.args.air.now c.args.state.now c.told.result c.in_default.ensures.cases c.told.ensures.value in
     record { value = both.0; held = both.1.0; bytes = both.1.1 }
 
-pub returns-then-verdict-ne0 : goal.returns-then-verdict-ne0
-returns-then-verdict-ne0 c =
-    let both = bad_told _ _ _ _ _ (omega (arith, c.if-state-ne-LENGTH.false)) c.judge-verdict.ensures c.if-verdict-ne0.true c.told-then-verdict-ne0.ensures.value in
-    record { value = both.0; held = both.1.0; bytes = both.1.1 }
+pub returns-in-Err : goal.returns-in-Err
+returns-in-Err c =
+    let at = c.in-Some.ensures.cases in
+    let both = bad_told c.args.script.now c.args.air.now c.args.state.now _ _ at.long c.in-Err.ensures (never_0 _) (rw c.from.ensures at c.told-in-Err.ensures.value) in
+    record { value = both.0; held = rw at.same both.1.0; bytes = both.1.1 }
 
-pub run_good-ran-requires : goal.run_good-ran-requires
-run_good-ran-requires c = (rw (← c.judge-verdict.ensures) c.if-verdict-ne0.false, omega (arith, c.if-state-ne-LENGTH.false))
+pub run_good-requires : goal.run_good-requires
+run_good-requires c = passed_good _ _ _ c.judge.ensures c.in_default-judge.is
 
 pub returns : goal.returns
 returns c =
-    let both = good_told _ _ _ _ _ _ _ (omega (arith, c.if-state-ne-LENGTH.false)) c.judge-verdict.ensures c.if-verdict-ne0.false c.run_good-ran.ensures.air_after c.run_good-ran.ensures.answer in
+    let at = c.in-Some.ensures.cases in
+    let both = good_told _ _ c.args.state.now _ _ _ _ at.long c.judge.ensures (passed _ _ c.in_default-judge.is) c.run_good.ensures.air_after c.run_good.ensures.answer in
     record { value = both.0; held = both.1.0; bytes = both.1.1 }

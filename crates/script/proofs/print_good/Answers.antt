@@ -1,9 +1,8 @@
 use Rattle.script.proofs.ScriptWays.{good_posts}
-use mathlib.Core.Path.{◌∙◌}
+use Rattle.std.proofs.Common.{rules}
 use Rattle.script.proofs.print_good.Goals as goal
 
-pub put_posts-requires : goal.put_posts-requires
-put_posts-requires c = c.run_good-ran.auto.state ∙ c.requires.1
-
 pub returns : goal.returns
-returns c = let both = good_posts _ _ _ _ _ _ _ c.requires.0 (c.run_good-ran.auto.state ∙ c.requires.1) c.run_good-ran.ensures.air_after c.run_good-ran.ensures.printed c.put_posts.ensures in record { result_after = both.0; bytes = both.1 }
+returns c =
+    let both = good_posts _ _ _ _ _ _ _ c.requires c.run_good.array_long c.run_good.ensures.air_after (rw c.new-printed.ensures.held at c.run_good.ensures.printed.1) c.put_posts.ensures.1 in
+    record { result_after = search (rules, both.0); bytes = both.1 }

@@ -16,10 +16,10 @@ loop-at-smaller c = omega (arith, line_above _ _ _ _ c.loop-at-test.true c.read_
 pub loop-at-preserved : goal.loop-at-preserved
 loop-at-preserved c = (
   omega (arith, c.loop-at.invariant.0, line_above _ _ _ _ c.loop-at-test.true c.read_line-l.ensures.value c.next_of-at.ensures),
-  left_more _ _ _ _ _ _ _ _ _ _ _ _ _ _ _ c.loop-at-test.true c.read_line-l.ensures.value c.run_step-answer.ensures.number c.run_step-answer.ensures.here c.run_step-answer.ensures.value c.put_refusal-to.ensures c.next_of-at.ensures c.loop-at.invariant.1,
+  left_more _ _ _ _ _ _ _ _ _ _ _ _ _ _ _ c.loop-at-test.true c.read_line-l.ensures.value c.run_step-answer.ensures.number c.run_step-answer.ensures.here c.run_step-answer.ensures.value c.put_refusal.ensures.1 c.next_of-at.ensures c.loop-at.invariant.1,
   c.run_step-answer.auto.state ∙ c.loop-at.invariant.2,
   c.run_step-answer.auto.air ∙ c.loop-at.invariant.3,
-  c.put_refusal-to.auto.output ∙ c.loop-at.invariant.4,
+  c.put_refusal.ensures.0 ∙ c.loop-at.invariant.4,
 )
 
 pub shape_of-state : goal.shape_of-state
@@ -28,8 +28,5 @@ shape_of-state c = c.loop-at.invariant.2
 pub shape_of-air : goal.shape_of-air
 shape_of-air c = c.loop-at.invariant.3
 
-pub shape_of-output : goal.shape_of-output
-shape_of-output c = c.loop-at.invariant.4
-
 pub returns : goal.returns
-returns c = let both = none_left _ _ _ _ _ _ _ _ _ c.loop-at-test.false c.loop-at.invariant.1 in record { air_after = both.0; printed = both.1.0; answer = both.1.1 }
+returns c = let both = none_left _ _ _ _ _ _ _ _ _ c.loop-at-test.false c.loop-at.invariant.1 in record { air_after = both.0; printed = (c.loop-at.invariant.4, both.1.0); answer = both.1.1 }

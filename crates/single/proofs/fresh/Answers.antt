@@ -1,16 +1,19 @@
-use native.Mathlib.Omega.{arith}
-use Rattle.single.proofs.FreshWays.{fresh_made, fresh_refused}
-use Rattle.single.proofs.Rows.{loaded, row_judged}
+use mathlib.Core.Path.{refl, ◌∙◌}
+use Rattle.refusal.specs.declared.Refusal.TheVariants.{NotInYard}
+use Rattle.std.specs.Prelude.{Err}
+use Rattle.single.proofs.FreshWays.{fresh_refused, fresh_bad, fresh_lane, fresh_made}
 use Rattle.single.proofs.fresh.Goals as goal
 
-pub returns-then-number-eq0 : goal.returns-then-number-eq0
-returns-then-number-eq0 c =
-    let row = loaded _ c.load.new.row (omega (arith, c.load.auto.row)) c.load.ensures.row_after in
-    let judged = row_judged _ _ _ row c.refusal.ensures.value in
-    fresh_made _ _ _ _ _ _ _ _ _ c.new-post.ensures c.has.ensures c.pick-number.ensures judged c.pick-number-2.ensures c.if-number-eq0.true
+pub returns-in_err-judged_row : goal.returns-in_err-judged_row
+returns-in_err-judged_row c =
+    fresh_refused _ _ _ _ c.from_residual.result _ c.from_residual.ensures.1 (fresh_bad _ _ _ _ c.new-post.result _ c.new-post.ensures c.in_err-judged_row.ensures.number)
 
-pub returns-else-number-eq0 : goal.returns-else-number-eq0
-returns-else-number-eq0 c =
-    let row = loaded _ c.load.new.row (omega (arith, c.load.auto.row)) c.load.ensures.row_after in
-    let judged = row_judged _ _ _ row c.refusal.ensures.value in
-    fresh_refused _ _ _ _ _ _ _ _ _ _ c.new-post.ensures c.has.ensures c.pick-number.ensures judged c.pick-number-2.ensures c.if-number-eq0.false c.new-none.ensures
+pub returns-then-not-has : goal.returns-then-not-has
+returns-then-not-has c =
+    fresh_refused _ _ _ _ (Err NotInYard) NotInYard refl
+    (fresh_lane _ _ _ _ c.new-post.result _ c.new-post.ensures c.in_ok-judged_row.ensures.number c.has.ensures ∙ rw c.if-not-has.true)
+
+pub returns : goal.returns
+returns c =
+    fresh_made _ _ _ _ _ c.new-post.ensures
+    (fresh_lane _ _ _ _ c.new-post.result _ c.new-post.ensures c.in_ok-judged_row.ensures.number c.has.ensures ∙ rw c.if-not-has.false)

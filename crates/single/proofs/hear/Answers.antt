@@ -1,45 +1,65 @@
 use native.Mathlib.Omega.{arith}
 use Rattle.frame.specs.Types.{AreBytes}
-use Rattle.single.proofs.Judged.{record_good}
-use Rattle.single.proofs.Lasting.{bytes_fit}
-use Rattle.single.proofs.Numbers.{hear_tells}
-use Rattle.single.proofs.HearWays.{hear_short, hear_unread, hear_bad, runs, hear_sends}
-use Rattle.single.proofs.Rows.{of_type, loaded, row_judged, row_knows, hear_runs}
+use mathlib.Core.Path.{◌≡◌, ◌∙◌}
+use Rattle.air.specs.Air.{frames_with}
+use Rattle.steps.specs.Outcomes.{frame_or_none}
+use Rattle.single.proofs.hear.Goals.{in-Some+in_ok-write, in_default}
+use Rattle.refusal.proofs.Refused.{never_0}
+use Rattle.single.proofs.Chains.{takes}
+use Rattle.single.proofs.HearWays.{passed_good, Reads, Takes, hear_refused, hear_short, hear_unread, reads, hear_bad, hear_decides, hear_takes, hear_done, broadcast, no_broadcast}
 use Rattle.single.proofs.hear.Goals as goal
 
-pub returns-then-buffer-ne-FRAME_LENGTH : goal.returns-then-buffer-ne-FRAME_LENGTH
-returns-then-buffer-ne-FRAME_LENGTH c =
-    let r = hear_short c.args.p c.args.bytes.now c.args.buffer.now (λ e. omega (arith, c.if-buffer-ne-FRAME_LENGTH.true)) in
-    let told = hear_tells _ _ _ _ r.0 in
-    record { value = r.0; buffer = r.1; number = told.0; count = told.1 }
+pub returns-in_err-check_length : goal.returns-in_err-check_length
+returns-in_err-check_length c =
+    let r = hear_refused c.args.p c.args.bytes.now c.args.buffer.now c.from_residual.result _ c.from_residual.ensures.1
+    (hear_short c.args.p _ _ _ c.in_err-check_length.ensures) in
+    record { value = r.value; buffer = r.buffer; number = r.number; count = r.count }
 
-pub returns-then-got-ne0 : goal.returns-then-got-ne0
-returns-then-got-ne0 c =
-    let r = hear_unread c.args.p c.args.bytes.now c.args.buffer.now _ (omega (arith, c.if-buffer-ne-FRAME_LENGTH.false)) c.read-got.ensures.value c.if-got-ne0.true in
-    let told = hear_tells _ _ _ _ r.0 in
-    record { value = r.0; buffer = r.1; number = told.0; count = told.1 }
+pub returns-in_err-f : goal.returns-in_err-f
+returns-in_err-f c =
+    let r = hear_refused c.args.p c.args.bytes.now c.args.buffer.now c.from_residual-in_err-f.result _ c.from_residual-in_err-f.ensures.1
+    (hear_unread c.args.p _ _ _ c.in_ok-check_length.ensures c.in_err-f.ensures.value) in
+    record { value = r.value; buffer = r.buffer; number = r.number; count = r.count }
 
-pub returns-then-number-ne0 : goal.returns-then-number-ne0
-returns-then-number-ne0 c =
-    let p = c.args.p in
-    let row = loaded p c.load.new.row (omega (arith, c.load.auto.row)) c.load.ensures.row_after in
-    let judged = row_judged p _ _ row c.refusal-number.ensures.value in
-    let r = hear_bad p c.args.bytes.now c.args.buffer.now _ _ (omega (arith, c.if-buffer-ne-FRAME_LENGTH.false)) c.read-got.ensures.value c.if-got-ne0.false judged c.if-number-ne0.true in
-    let told = hear_tells _ _ _ _ r.0 in
-    record { value = r.0; buffer = r.1; number = told.0; count = told.1 }
+pub returns-in_err-row : goal.returns-in_err-row
+returns-in_err-row c =
+    let r = hear_refused c.args.p c.args.bytes.now c.args.buffer.now c.from_residual-in_err-row.result _ c.from_residual-in_err-row.ensures.1
+    (hear_bad c.args.p _ _ _ _ c.in_ok-check_length.ensures (reads _ _ c.in_ok-f.ensures.value) c.in_err-row.ensures.number) in
+    record { value = r.value; buffer = r.buffer; number = r.number; count = r.count }
+
+pub returns-in_err-hearing : goal.returns-in_err-hearing
+returns-in_err-hearing c =
+    let r = hear_refused c.args.p c.args.bytes.now c.args.buffer.now c.from_residual-in_err-hearing.result _ c.from_residual-in_err-hearing.ensures.1
+    (hear_decides c.args.p _ _ _ _ _ c.in_ok-check_length.ensures (reads _ _ c.in_ok-f.ensures.value) c.in_ok-row.ensures.row c.in_err-hearing.ensures.number) in
+    record { value = r.value; buffer = r.buffer; number = r.number; count = r.count }
+
+pub returns-in_err-write : goal.returns-in_err-write
+returns-in_err-write c =
+    let are : AreBytes c.args.bytes.now = λ i. (c.type_inv.bytes i).fits in
+    let j = c.in_ok-row.ensures.row in
+    let d = c.in_ok-hearing.field-0 in
+    let read : Reads c.args.bytes.now c.in_ok-f.f = reads c.args.bytes.now c.in_ok-f.f c.in_ok-f.ensures.value in
+    let s : Takes c.args.p c.args.bytes.now c.hear.new.row d
+    = hear_takes c.args.p c.args.bytes.now c.in_ok-row.row c.hear.new.row c.in_ok-f.f d are read j c.in_ok-hearing.ensures.number c.in_ok-hearing.ensures.frame_after
+    in
+    let good = passed_good c.args.p c.args.bytes.now c.in_ok-row.row c.hear.new.row c.in_ok-f.f c.in-Some.passed_on d read j s c.in_ok-hearing.ensures.broadcast c.in-Some.is in
+    absurd (never_0 _ (c.in_err-write.ensures.number ∙ takes c.args.buffer.now _ c.in_ok-check_length.ensures good))
 
 pub returns : goal.returns
 returns c =
-    let p = c.args.p in
-    let bytes = c.args.bytes.now in
-    let are : AreBytes bytes = λ i. (c.shared_slice_known-1.given i).fits in
-    let shaped = of_type p _ c.well_formed.0 in
-    let row = loaded p c.load.new.row (omega (arith, c.load.auto.row)) c.load.ensures.row_after in
-    let judged = row_judged p _ _ row c.refusal-number.ensures.value in
-    let good = record_good p _ judged c.if-number-ne0.false in
-    let knows = row_knows p _ _ _ row c.refusal-number.ensures.value c.if-number-ne0.false c.refusal-number.ensures.post c.refusal-number.ensures.known in
-    let run = runs p bytes c.args.buffer.now _ _ (omega (arith, c.if-buffer-ne-FRAME_LENGTH.false)) c.read-got.ensures.value c.if-got-ne0.false judged c.if-number-ne0.false in
-    let done = hear_runs p _ _ c.hear-done.new.row _ _ _ (rw run.frame run.accepted) (rw run.frame (bytes_fit bytes are)) shaped good knows (omega (arith, c.hear-done.auto.row, c.refusal-number.auto.row, c.load.auto.row)) c.hear-done.ensures.frame_after c.store-post.ensures in
-    let r = hear_sends p bytes c.args.buffer.now _ _ _ run (omega (arith, c.if-buffer-ne-FRAME_LENGTH.false)) done c.write.ensures.bytes in
-    let told = hear_tells _ _ _ _ r.0 in
-    record { value = r.0; buffer = r.1; number = told.0; count = told.1 }
+    let are : AreBytes c.args.bytes.now = λ i. (c.type_inv.bytes i).fits in
+    let j = c.in_ok-row.ensures.row in
+    let d = c.in_ok-hearing.field-0 in
+    let read : Reads c.args.bytes.now c.in_ok-f.f = reads c.args.bytes.now c.in_ok-f.f c.in_ok-f.ensures.value in
+    let s : Takes c.args.p c.args.bytes.now c.hear.new.row d
+    = hear_takes c.args.p c.args.bytes.now c.in_ok-row.row c.hear.new.row c.in_ok-f.f d are read j c.in_ok-hearing.ensures.number c.in_ok-hearing.ensures.frame_after
+    in
+    let written : c.match-frame.buffer ≡ frames_with c.args.buffer.now 0 (frame_or_none d.frame)
+    = elim c.match-frame.branch [
+      | in-Some+in_ok-write w ↦ w.buffer-is ∙ broadcast _ _ _ _ w.in-Some.is w.write.ensures.bytes
+      | in_default w ↦ w.buffer-is ∙ no_broadcast _ _ w.in_default.is
+    ]
+    in
+    let r = hear_done c.args.p c.args.bytes.now c.args.buffer.now c.in_ok-row.row c.hear.new.row c.in_ok-f.f d c.store-post.result c.match-frame.buffer
+    c.in_ok-check_length.ensures read j s (omega (arith, j.whole, c.hear.auto.row)) written c.store-post.ensures in
+    record { value = r.value; buffer = r.buffer; number = r.number; count = r.count }

@@ -1,34 +1,40 @@
 use native.Mathlib.Omega.{arith}
-use Rattle.single.proofs.Judged.{record_good}
-use Rattle.single.proofs.Numbers.{order_tells}
-use Rattle.single.proofs.OrderWays.{order_short, order_bad, order_sends}
-use Rattle.single.proofs.Rows.{of_type, loaded, row_judged, row_knows, order_runs}
+use mathlib.Core.Path.{◌∙◌}
+use Rattle.refusal.proofs.Refused.{never_0}
+use Rattle.single.specs.Single.{order_refusal_singly}
+use Rattle.single.proofs.OrderWays.{order_refused, order_sends, order_done}
+use Rattle.single.proofs.Chains.{short, bad, good, takes}
 use Rattle.single.proofs.order.Goals as goal
 
-pub returns-then-buffer-ne-FRAME_LENGTH : goal.returns-then-buffer-ne-FRAME_LENGTH
-returns-then-buffer-ne-FRAME_LENGTH c =
-    let r = order_short c.args.p c.args.word c.args.buffer.now (λ e. omega (arith, c.if-buffer-ne-FRAME_LENGTH.true)) in
-    let told = order_tells _ _ _ _ r.0 in
-    record { value = r.0; buffer = r.1; number = told.0; serial = told.1.0; stamp = told.1.1.0; count = told.1.1.1 }
+pub returns-in_err-check_length : goal.returns-in_err-check_length
+unfolding order_refusal_singly
+returns-in_err-check_length c =
+    let r = order_refused c.args.p c.args.word c.args.buffer.now c.from_residual.result _ c.from_residual.ensures.1 (short c.args.p _ _ _ c.in_err-check_length.ensures) in
+    record { value = r.value; buffer = r.buffer; number = r.number; serial = r.serial; stamp = r.stamp; count = r.count }
 
-pub returns-then-number-ne0 : goal.returns-then-number-ne0
-returns-then-number-ne0 c =
-    let p = c.args.p in
-    let row = loaded p c.load.new.row (omega (arith, c.load.auto.row)) c.load.ensures.row_after in
-    let judged = row_judged p _ _ row c.refusal-number.ensures.value in
-    let r = order_bad p c.args.word c.args.buffer.now _ (omega (arith, c.if-buffer-ne-FRAME_LENGTH.false)) judged c.if-number-ne0.true in
-    let told = order_tells _ _ _ _ r.0 in
-    record { value = r.0; buffer = r.1; number = told.0; serial = told.1.0; stamp = told.1.1.0; count = told.1.1.1 }
+pub returns-in_err-row : goal.returns-in_err-row
+unfolding order_refusal_singly
+returns-in_err-row c =
+    let r = order_refused c.args.p c.args.word c.args.buffer.now c.from_residual-in_err-row.result _ c.from_residual-in_err-row.ensures.1
+    (bad c.args.p _ _ _ c.in_ok-check_length.ensures c.in_err-row.ensures.number) in
+    record { value = r.value; buffer = r.buffer; number = r.number; serial = r.serial; stamp = r.stamp; count = r.count }
+
+pub returns-in_err-sent : goal.returns-in_err-sent
+unfolding order_refusal_singly
+returns-in_err-sent c =
+    let j = c.in_ok-row.ensures.row in
+    let r = order_refused c.args.p c.args.word c.args.buffer.now c.from_residual-in_err-sent.result _ c.from_residual-in_err-sent.ensures.1
+    (good c.args.p _ _ _ c.in_ok-check_length.ensures j.good (rw j.post at c.in_err-sent.ensures.number)) in
+    record { value = r.value; buffer = r.buffer; number = r.number; serial = r.serial; stamp = r.stamp; count = r.count }
+
+pub returns-in_err-write : goal.returns-in_err-write
+returns-in_err-write c =
+    let s = order_sends c.args.p c.args.word _ c.order.new.row _ (omega (arith, c.well_formed.1)) c.in_ok-row.ensures.row c.in_ok-sent.ensures.number c.in_ok-sent.ensures.frame_after in
+    absurd (never_0 _ (c.in_err-write.ensures.number ∙ takes c.args.buffer.now _ c.in_ok-check_length.ensures s.frame))
 
 pub returns : goal.returns
 returns c =
-    let p = c.args.p in
-    let shaped = of_type p _ c.well_formed.0 in
-    let row = loaded p c.load.new.row (omega (arith, c.load.auto.row)) c.load.ensures.row_after in
-    let judged = row_judged p _ _ row c.refusal-number.ensures.value in
-    let good = record_good p _ judged c.if-number-ne0.false in
-    let knows = row_knows p _ _ _ row c.refusal-number.ensures.value c.if-number-ne0.false c.refusal-number.ensures.post c.refusal-number.ensures.known in
-    let done = order_runs p c.args.word _ c.order-done.new.row _ _ _ (omega (arith, c.well_formed.1)) shaped good knows (omega (arith, c.order-done.auto.row, c.refusal-number.auto.row, c.load.auto.row)) c.order-done.ensures.frame_after c.store-post.ensures in
-    let r = order_sends p c.args.word c.args.buffer.now _ _ _ (omega (arith, c.if-buffer-ne-FRAME_LENGTH.false)) judged c.if-number-ne0.false done c.write.ensures.bytes in
-    let told = order_tells _ _ _ _ r.0 in
-    record { value = r.0; buffer = r.1; number = told.0; serial = told.1.0; stamp = told.1.1.0; count = told.1.1.1 }
+    let j = c.in_ok-row.ensures.row in
+    let s = order_sends c.args.p c.args.word _ c.order.new.row _ (omega (arith, c.well_formed.1)) j c.in_ok-sent.ensures.number c.in_ok-sent.ensures.frame_after in
+    let r = order_done c.args.p c.args.word c.args.buffer.now _ c.order.new.row _ _ _ c.in_ok-check_length.ensures j s (omega (arith, j.whole, c.order.auto.row)) c.write.ensures.bytes c.store-post.ensures in
+    record { value = r.value; buffer = r.buffer; number = r.number; serial = r.serial; stamp = r.stamp; count = r.count }

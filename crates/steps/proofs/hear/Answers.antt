@@ -2,23 +2,34 @@ use native.Mathlib.Omega.{arith}
 use Prim.Native.Nat.{◌≤◌}
 use lib.ListN.{length}
 use mathlib.Core.Path.{refl, sym, ◌∙◌}
-use Rattle.steps.proofs.HearWays.{whole_row, can_take, hear_takes, hear_raises, hear_stays, with_hear_answers}
+use Rattle.std.proofs.lemmas.Result.{err_from_is_err_and}
+use Rattle.steps.proofs.HearWays.{whole_row, can_take, hear_takes, hear_raises, hear_stays}
 use Rattle.steps.proofs.hear.Goals as goal
 
-pub refusal-number-requires : goal.refusal-number-requires
-refusal-number-requires c = (c.last_taken-last.ensures, c.is_next-next.ensures)
-
-pub returns-then-number-ne0 : goal.returns-then-number-ne0
-returns-then-number-ne0 c = let both = with_hear_answers _ _ _ _ c.args.row.now _ _ (hear_stays c.args.row.now c.args.f _ _ c.refusal-number.ensures c.if-number-ne0.true c.none-none.ensures) refl in record { frame_after = both.0; past = both.1.0; number = both.1.1.0; count = both.1.1.1 }
+pub returns-in_err-check : goal.returns-in_err-check
+returns-in_err-check c =
+    let r = err_from_is_err_and c.from_residual.result c.from_residual.ensures.1 in
+    let done = hear_stays c.args.row.now c.args.f c.from_residual.result r.0 r.1 (rw r.2 c.in_err-check.ensures) in
+    record { frame_after = done.0; past = refl; number = rw (r.1, r.2) c.in_err-check.ensures; count = done.1; broadcast = rw r.1 tt }
 
 pub raise_all-requires : goal.raise_all-requires
-raise_all-requires c = (whole_row c.args.row.now c.args.f (sym c.refusal-number.ensures ∙ c.if-number-ne0.false)).0
+raise_all-requires c = (whole_row c.args.row.now c.args.f (sym c.in_ok-check.ensures)).0
 
 pub take-frame-requires : goal.take-frame-requires
-take-frame-requires c = let h : 543 ≤ length c.raise_all.new.row = omega (arith, (whole_row c.args.row.now c.args.f (sym c.refusal-number.ensures ∙ c.if-number-ne0.false)).0) in can_take c.args.row.now c.raise_all.new.row c.args.f _ _ _ c.refusal-number.ensures c.if-number-ne0.false c.last_taken-last.ensures c.is_next-next.ensures c.if-next.true c.raise_all.ensures.row_after h
+take-frame-requires c =
+    let whole : 543 ≤ length c.raise_all.new.row = omega (arith, (whole_row c.args.row.now c.args.f (sym c.in_ok-check.ensures)).0) in
+    can_take c.args.row.now c.raise_all.new.row c.args.f _ _ c.in_ok-check.ensures c.last_taken-last.ensures c.is_next-next.ensures c.if-next.true c.raise_all.ensures.row_after whole
 
 pub returns-then-next : goal.returns-then-next
-returns-then-next c = let h : 543 ≤ length c.take-frame.new.row = omega (arith, (whole_row c.args.row.now c.args.f (sym c.refusal-number.ensures ∙ c.if-number-ne0.false)).0) in let both = with_hear_answers _ _ _ _ c.args.row.now _ _ (hear_takes c.args.row.now c.raise_all.new.row c.take-frame.new.row _ c.args.f _ _ _ _ _ c.refusal-number.ensures c.if-number-ne0.false c.last_taken-last.ensures c.is_next-next.ensures c.if-next.true c.raise_all.ensures.row_after c.raise_all.ensures.known c.take-frame.ensures.value c.take-frame.ensures.post c.take-frame.ensures.known h c.deliver-count.ensures.fact) (c.deliver-count.ensures.past ∙ c.take-frame.ensures.past ∙ c.raise_all.ensures.past) in record { frame_after = both.0; past = both.1.0; number = both.1.1.0; count = both.1.1.1 }
+returns-then-next c =
+    let whole : 543 ≤ length c.take-frame.new.row = omega (arith, (whole_row c.args.row.now c.args.f (sym c.in_ok-check.ensures)).0) in
+    let done = hear_takes c.args.row.now c.raise_all.new.row c.take-frame.new.row c.deliver-count.new.row c.args.f _ _ _ _ c.in_ok-check.ensures c.last_taken-last.ensures c.is_next-next.ensures c.if-next.true
+    c.raise_all.ensures.row_after c.raise_all.ensures.known c.take-frame.ensures.value c.take-frame.ensures.post c.take-frame.ensures.known whole c.deliver-count.ensures.fact in
+    record { frame_after = done.0; past = c.deliver-count.ensures.past ∙ c.take-frame.ensures.past ∙ c.raise_all.ensures.past; number = c.in_ok-check.ensures; count = done.1; broadcast = cc (c.last_taken-last.ensures, c.is_next-next.ensures, c.if-next.true) }
 
 pub returns : goal.returns
-returns c = let h : 543 ≤ length c.raise_all.new.row = omega (arith, (whole_row c.args.row.now c.args.f (sym c.refusal-number.ensures ∙ c.if-number-ne0.false)).0) in let both = with_hear_answers _ _ _ _ c.args.row.now _ _ (hear_raises c.args.row.now c.raise_all.new.row _ c.args.f _ _ _ _ _ _ c.refusal-number.ensures c.if-number-ne0.false c.last_taken-last.ensures c.is_next-next.ensures c.if-next.false c.none-none-2.ensures c.raise_all.ensures.row_after c.raise_all.ensures.known h c.deliver-count-2.ensures.fact c.other-answer.ensures) (c.deliver-count-2.ensures.past ∙ c.raise_all.ensures.past) in record { frame_after = both.0; past = both.1.0; number = both.1.1.0; count = both.1.1.1 }
+returns c =
+    let whole : 543 ≤ length c.raise_all.new.row = omega (arith, (whole_row c.args.row.now c.args.f (sym c.in_ok-check.ensures)).0) in
+    let done = hear_raises c.args.row.now c.raise_all.new.row c.deliver-count-2.new.row c.args.f _ _ _ _ c.in_ok-check.ensures c.last_taken-last.ensures c.is_next-next.ensures c.if-next.false
+    c.raise_all.ensures.row_after c.raise_all.ensures.known whole c.deliver-count-2.ensures.fact c.other.ensures in
+    record { frame_after = done.0; past = c.deliver-count-2.ensures.past ∙ c.raise_all.ensures.past; number = c.in_ok-check.ensures; count = done.1; broadcast = cc (c.last_taken-last.ensures, c.is_next-next.ensures, c.if-next.false) }

@@ -1,27 +1,47 @@
+use mathlib.Core.Path.{refl}
 use native.Mathlib.Omega.{arith}
-use mathlib.Core.Path.{sym, ◌∙◌}
+use Rattle.refusal.proofs.Refused.{never_0}
 use Rattle.row.specs.Rows.{post_in}
 use Rattle.state.proofs.StateLaws.{lent_row}
-use Rattle.yard.proofs.PartWays.{beacon_left}
-use Rattle.yard.proofs.BeaconWays.{beacon_over_7, beacon_short, beacon_stopped, beacon_runs}
-use Rattle.yard.proofs.AnswerLaws.{beacon_tells}
-use borrow.Author.Rules.{rules}
+use Rattle.yard.proofs.PartWays.{placed, beacon_no_air, beacon_refused, beacon_spent, beacon_left}
+use Rattle.yard.proofs.BeaconWays.{beacon_misplaced, beacon_stopped, beacon_runs}
+use Rattle.yard.proofs.AnswerLaws.{beacon_promised, beacon_handed}
 use Rattle.yard.proofs.beacon.Goals as goal
 
-pub returns-then-lane-ge-LANES : goal.returns-then-lane-ge-LANES
-returns-then-lane-ge-LANES c = let both = beacon_tells _ _ _ _ (beacon_over_7 c.args.state.now c.args.air.now c.args.lane (omega arith)) in record { air_after = both.0; number = both.1 }
+pub returns-in_err-check : goal.returns-in_err-check
+returns-in_err-check c =
+    let w = c.in_err-check.ensures in
+    beacon_handed c.args.state.now c.args.air.now _ _ c.args.lane c.from_residual.result _ c.from_residual.ensures.1
+    (beacon_misplaced c.args.state.now c.args.air.now c.args.lane _ w (never_0 _))
 
-pub returns-then-state-ne-LENGTH : goal.returns-then-state-ne-LENGTH
-returns-then-state-ne-LENGTH c = let both = beacon_tells _ _ _ _ (beacon_short c.args.state.now c.args.air.now c.args.lane (omega arith) c.if-state-ne-LENGTH.true) in record { air_after = both.0; number = both.1 }
+pub returns-then-air-ne-LENGTH : goal.returns-then-air-ne-LENGTH
+returns-then-air-ne-LENGTH c =
+    let at = placed c.args.state.now c.args.lane c.in_ok-check.ensures in
+    beacon_promised c.args.state.now c.args.air.now _ _ c.args.lane 13 _ refl
+    (beacon_stopped c.args.state.now c.args.air.now c.args.lane _ 13 at.0 at.1 refl
+    (beacon_no_air c.args.air.now (post_in (lent_row c.args.state.now c.args.lane)) _ c.if-air-ne-LENGTH.true) (λ e. omega (arith, e)))
 
-pub returns-then-number-ne0 : goal.returns-then-number-ne0
-returns-then-number-ne0 c = let both = beacon_tells _ _ _ _ (beacon_stopped c.args.state.now c.args.air.now c.args.lane _ _ (omega arith) (omega arith) c.get_in-sent.ensures c.beacon_refusal-number.ensures c.if-number-ne0.true) in record { air_after = both.0; number = both.1 }
+pub returns-in_err-frame : goal.returns-in_err-frame
+returns-in_err-frame c =
+    let at = placed c.args.state.now c.args.lane c.in_ok-check.ensures in
+    beacon_handed c.args.state.now c.args.air.now _ _ c.args.lane c.from_residual-in_err-frame.result _ c.from_residual-in_err-frame.ensures.1
+    (beacon_stopped c.args.state.now c.args.air.now c.args.lane _ _ at.0 at.1 refl
+    (beacon_refused c.args.air.now (post_in (lent_row c.args.state.now c.args.lane)) _ c.if-air-ne-LENGTH.false _ c.in_err-frame.ensures.number (never_0 _)) (never_0 _))
 
-pub overflow_add-sent : goal.overflow_add-sent
-overflow_add-sent c = let h = (beacon_left c.args.air.now (post_in (lent_row c.args.state.now c.args.lane)) c.get_in-sent.result (sym c.beacon_refusal-number.ensures ∙ c.if-number-ne0.false)).1 in search rules
+pub returns-then-sent-ge-BEACONS : goal.returns-then-sent-ge-BEACONS
+returns-then-sent-ge-BEACONS c =
+    let at = placed c.args.state.now c.args.lane c.in_ok-check.ensures in
+    beacon_promised c.args.state.now c.args.air.now _ _ c.args.lane 27 _ refl
+    (beacon_stopped c.args.state.now c.args.air.now c.args.lane _ 27 at.0 at.1 c.get_in-sent.ensures
+    (beacon_spent c.args.air.now (post_in (lent_row c.args.state.now c.args.lane)) _ c.if-air-ne-LENGTH.false c.in_ok-frame.ensures.number c.if-sent-ge-BEACONS.true) (λ e. omega (arith, e)))
 
 pub broadcast-requires : goal.broadcast-requires
-broadcast-requires c = (beacon_left c.args.air.now (post_in (lent_row c.args.state.now c.args.lane)) c.get_in-sent.result (sym c.beacon_refusal-number.ensures ∙ c.if-number-ne0.false)).0
+broadcast-requires c = c.if-air-ne-LENGTH.false
 
 pub returns : goal.returns
-returns c = let both = beacon_tells _ _ _ _ (beacon_runs c.args.state.now c.put_in.new.row _ c.args.air.now _ c.args.lane _ _ _ (omega (arith, c.if-lane-ge-LANES.false)) c.if-state-ne-LENGTH.false c.get_in-sent.ensures c.beacon_refusal-number.ensures c.if-number-ne0.false c.beacon-done.ensures.value c.put_in.ensures (c.broadcast.ensures.state_after, c.broadcast.ensures.bytes)) in record { air_after = both.0; number = both.1 }
+returns c =
+    let at = placed c.args.state.now c.args.lane c.in_ok-check.ensures in
+    beacon_promised c.args.state.now c.args.air.now _ _ c.args.lane 0 _ refl
+    (beacon_runs c.args.state.now c.put_in.new.row _ c.args.air.now _ c.args.lane _ 0 _ at.0 at.1 c.get_in-sent.ensures
+    (beacon_left c.args.air.now (post_in (lent_row c.args.state.now c.args.lane)) _ c.if-air-ne-LENGTH.false c.in_ok-frame.ensures.number c.if-sent-ge-BEACONS.false) refl
+    c.in_ok-frame.ensures.value c.put_in.ensures (c.broadcast.ensures.state_after, c.broadcast.ensures.bytes))

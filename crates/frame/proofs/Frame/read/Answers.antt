@@ -1,21 +1,19 @@
 use native.Mathlib.Omega.{arith}
-use mathlib.Core.Path.{ap, sym, ◌∙◌}
-use Rattle.frame.specs.Layout.{bytes_of}
+use mathlib.Core.Path.{ap, refl, sym, ◌∙◌}
+use Rattle.frame.specs.Layout.{bytes_of, frame_of}
 use Rattle.frame.proofs.Laws.{readable, read_refused, read_accepted}
+use Rattle.refusal.proofs.Refused.{never_0}
+use Rattle.frame.proofs.Refused.{handed_read}
 use Rattle.frame.proofs.RoundTrip.{bytes_frame}
 use Rattle.frame.proofs.Frame.read.Goals as goal
 
-pub returns-then-number-ne0-clause-value : goal.returns-then-number-ne0-clause-value
-returns-then-number-ne0-clause-value c = read_refused _ _ _ c.drift_frame_check-number.ensures c.if-number-ne0.true c.refused.ensures
+pub returns-in_err-bytes-clause-value : goal.returns-in_err-bytes-clause-value
+returns-in_err-bytes-clause-value c = read_refused _ _ _ c.in_err-bytes.ensures.number (never_0 _) (handed_read _ _ c.from_residual.ensures.1)
 
-pub returns-then-number-ne0-clause-writes_back : goal.returns-then-number-ne0-clause-writes_back
-returns-then-number-ne0-clause-writes_back c = λ z. absurd (c.if-number-ne0.true (rw c.refused.ensures at z))
+pub returns-clause-value : goal.returns-clause-value
+returns-clause-value c = read_accepted _ _ 0 c.in_ok-bytes.ensures.number refl (c.frame_of.ensures ∙ ap frame_of c.in_ok-bytes.ensures.same)
 
-pub frame_of-frame-requires : goal.frame_of-frame-requires
-frame_of-frame-requires c = (readable _ (sym c.drift_frame_check-number.ensures ∙ c.if-number-ne0.false)).0
-
-pub returns : goal.returns
-returns c =
-    let bytes = c.args.bytes.now in
-    let judged = c.drift_frame_check-number.ensures in
-    let length_32 = (readable bytes (sym judged ∙ c.if-number-ne0.false)).0 in record { value = read_accepted _ _ _ judged c.if-number-ne0.false c.frame_of-frame.ensures; writes_back = λ z. ap bytes_of c.frame_of-frame.ensures ∙ bytes_frame bytes length_32 (λ i. omega (arith, c.shared_slice_known-1.given i)) }
+pub returns-clause-writes_back : goal.returns-clause-writes_back
+returns-clause-writes_back c =
+    let length_32 = (readable c.args.bytes.now (sym c.in_ok-bytes.ensures.number)).0 in
+    ap bytes_of (c.frame_of.ensures ∙ ap frame_of c.in_ok-bytes.ensures.same) ∙ bytes_frame c.args.bytes.now length_32 (λ i. omega (arith, c.type_inv.bytes i))

@@ -1,19 +1,23 @@
 use borrow.Author.Rules.{rules}
-use native.Mathlib.Omega.{arith}
-use mathlib.Core.Path.{◌≡◌, sym}
+use mathlib.Core.Path.{refl, sym, ◌∙◌}
 use Rattle.frame.specs.Types.{Typed}
 use Rattle.frame.proofs.Laws.{write_short, write_refused, write_accepted}
+use Rattle.refusal.proofs.Refused.{never_0, ok_number, handed_on}
 use Rattle.frame.proofs.Theorems.{reads_back}
 use Rattle.frame.proofs.Values.{stamps_fit}
 use Rattle.frame.proofs.Frame.write.Goals as goal
 
-pub returns-then-buffer-ne-LENGTH : goal.returns-then-buffer-ne-LENGTH
-returns-then-buffer-ne-LENGTH c = let w = write_short c.args.buffer.now _ (λ e. omega (arith, c.if-buffer-ne-LENGTH.true)) in record { number = w.0; bytes = w.1; reads_back = λ z. absurd (omega arith) }
+pub returns-in_default : goal.returns-in_default
+returns-in_default c =
+    let w = write_short c.args.buffer.now c.args.self c.in_default.ensures.cases in
+    record { number = w.0; bytes = w.1; reads_back = λ z. absurd (cc) }
 
-pub returns-then-refusal-ne0 : goal.returns-then-refusal-ne0
-returns-then-refusal-ne0 c =
-    let bad : c.refusal-refusal.result ≡ 0 → ⊥ = λ z. omega (arith, c.if-refusal-ne0.true) in
-    let w = write_refused c.args.buffer.now _ _ (omega arith) c.refusal-refusal.ensures bad in record { number = w.0; bytes = w.1; reads_back = λ z. absurd (bad z) }
+pub returns-in_err-check : goal.returns-in_err-check
+returns-in_err-check c =
+    let whole = c.in-Some.ensures.cases in
+    let w = write_refused c.args.buffer.now c.args.self _ whole.long c.in_err-check.ensures (never_0 _) in
+    let n = handed_on _ _ c.from_residual.ensures.1 in
+    record { number = n ∙ w.0; bytes = whole.same ∙ w.1; reads_back = λ z. absurd (never_0 _ (sym n ∙ ok_number _ z)) }
 
 pub returns : goal.returns
 returns c =
@@ -26,5 +30,5 @@ returns c =
       count = entries.1.0.1;
       stamps = stamps_fit self.entries entries.0 entries.1.1;
     } in
-    let judged = c.refusal-refusal in
-    let w = write_accepted buffer _ _ _ (omega arith) judged.ensures c.if-refusal-ne0.false c.put.ensures in record { number = w.0; bytes = w.1; reads_back = λ z. rw w.1 (reads_back _ _ fits (sym w.0)) }
+    let w = write_accepted buffer _ _ 0 c.in-Some.ensures.cases.long c.in_ok-check.ensures refl c.put.ensures in
+    record { number = w.0; bytes = w.1; reads_back = λ z. rw w.1 (reads_back _ _ fits (sym w.0)) }

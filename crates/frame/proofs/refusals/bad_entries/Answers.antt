@@ -1,23 +1,19 @@
-use native.Mathlib.Omega.{arith}
-use mathlib.Core.Path.{◌≡◌, refl, sym, ◌∙◌, ap}
-use lib.Dec.{lit≤}
+use mathlib.Core.Path.{◌≡◌, ◌∙◌, ap}
+use borrow.Author.Rules.{rules}
+use borrow.Author.Tests.{tests}
+use lib.ListN.{length}
+use Rattle.std.proofs.lemmas.Iterator.{YieldsList-from_slice}
+use Rattle.std.proofs.lemmas.Iterator.Search.{any_from_yields_List}
 use Rattle.frame.specs.Lanes.{any_below}
-use Rattle.frame.specs.Refusals.{bad_entries}
-use Rattle.frame.proofs.Laws.{some_below, none_more}
-use Rattle.frame.proofs.refusals.bad_entries.Invariants.{bad}
+use Rattle.frame.specs.Layout.{no_entry}
+use Rattle.frame.specs.Refusals.{bad_entry, bad_entries}
+use Rattle.frame.proofs.Lanes.{any_listed}
 use Rattle.frame.proofs.refusals.bad_entries.Goals as goal
-
-pub loop-lane-init : goal.loop-lane-init
-unfolding any_below
-loop-lane-init c = (lit≤ tt, refl)
-
-pub returns-then-bad_entry : goal.returns-then-bad_entry
-unfolding bad_entries
-returns-then-bad_entry c = some_below (bad c.args.f) _ 8 (omega arith) (sym c.bad_entry.ensures ∙ c.if-bad_entry.true)
-
-pub loop-lane-preserved : goal.loop-lane-preserved
-loop-lane-preserved c = (omega arith, none_more _ _ _ c.loop-lane.invariant.1 c.bad_entry.ensures c.if-bad_entry.false)
 
 pub returns : goal.returns
 unfolding bad_entries
-returns c = let e : c.loop-lane.lane ≡ 8 = omega arith in sym c.loop-lane.invariant.1 ∙ ap (any_below _) e
+returns c =
+    let entries = c.args.f.entries in
+    let eight : length entries ≡ 8 = search rules in
+    any_from_yields_List bad_entry _ _ c.any.result c.any.ensures.ran (YieldsList-from_slice entries cc) (λ x b q k. search (rules, tests))
+    ∙ any_listed bad_entry no_entry entries ∙ ap (any_below _) eight

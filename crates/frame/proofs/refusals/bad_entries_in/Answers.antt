@@ -1,24 +1,21 @@
-use native.Mathlib.Omega.{arith}
-use mathlib.Core.Path.{◌≡◌, refl, sym, ◌∙◌, ap}
-use lib.Dec.{lit≤}
+use mathlib.Core.Path.{refl, ◌∙◌}
+use Prim.Native.Nat.{◌+◌, ◌*◌}
+use borrow.Author.Rules.{rules}
+use borrow.Author.Tests.{tests}
+use Rattle.std.specs.List.{range_with_len}
+use Rattle.std.proofs.lemmas.Iterator.{YieldsList-from_range}
+use Rattle.std.proofs.lemmas.Iterator.Search.{any_from_yields_List}
 use Rattle.frame.specs.Lanes.{any_below}
+use Rattle.frame.specs.Layout.{entry_at}
 use Rattle.frame.specs.Refusals.{bad_entry}
-use Rattle.frame.proofs.Laws.{some_below, none_more, entries_in_lem}
-use Rattle.frame.proofs.refusals.bad_entries_in.Invariants.{bad}
+use Rattle.frame.proofs.Lanes.{any_listed}
+use Rattle.frame.proofs.Laws.{entries_in_lem}
 use Rattle.frame.proofs.refusals.bad_entries_in.Goals as goal
 
-pub loop-lane-init : goal.loop-lane-init
-unfolding any_below
-loop-lane-init c = (lit≤ tt, refl)
-
-pub returns-then-bad_entry : goal.returns-then-bad_entry
-returns-then-bad_entry c =
-    let bytes = c.args.bytes.now in
-    some_below (bad bytes) c.loop-lane.lane 8 (omega arith) (sym (c.bad_entry.ensures ∙ ap bad_entry c.entry_at.ensures) ∙ c.if-bad_entry.true)
-    ∙ entries_in_lem bytes
-
-pub loop-lane-preserved : goal.loop-lane-preserved
-loop-lane-preserved c = (omega arith, none_more _ _ _ c.loop-lane.invariant.1 (c.bad_entry.ensures ∙ ap bad_entry c.entry_at.ensures) c.if-bad_entry.false)
-
 pub returns : goal.returns
-returns c = let e : c.loop-lane.lane ≡ 8 = omega arith in sym c.loop-lane.invariant.1 ∙ ap (any_below _) e ∙ entries_in_lem _
+unfolding any_below
+returns c =
+    let bytes = c.args.bytes.now in
+    let bad = λ (lane : _). bad_entry (entry_at bytes (8 + 3 * lane)) in
+    any_from_yields_List bad _ _ c.any.result c.any.ensures.ran (YieldsList-from_range 0 8 8 refl refl) (λ x b q k. search (rules, tests))
+    ∙ any_listed bad 0 (range_with_len 0 8) ∙ entries_in_lem bytes

@@ -1,20 +1,17 @@
-use borrow.Author.Rules.{rules}
-use mathlib.Core.Path.{◌≡◌, refl}
+use lib.ListN.{get_or, take, length-take}
+use mathlib.Core.Path.{◌≡◌}
 use native.Mathlib.Omega.{arith}
-use lib.ListN.{length-set}
-use Rattle.frame.specs.Lanes.{any_below}
-use Rattle.deliver.specs.Known.{known_below}
-use Rattle.deliver.specs.Loops.{marks_below}
+use Rattle.std.proofs.lemmas.List.{get_or-take}
 use Rattle.deliver.proofs.Turns.{marks_more}
 use Rattle.judge.proofs.Laws.{used_more, known_next}
 use Rattle.judge.proofs.log.bad_used.Goals as goal
 
-pub loop-k-init : goal.loop-k-init
-unfolding any_below marks_below known_below
-loop-k-init c = search rules
-
-pub loop-k-preserved : goal.loop-k-preserved
-loop-k-preserved c = (omega arith, omega arith, rw (c.bad_place-bad.ensures.marks, length-set) c.loop-k.invariant.2, known_next c.args.known.now c.args.log.now c.loop-k.known _ c.loop-k.k c.loop-k.invariant.3 c.bad_place-bad.ensures.known, marks_more c.args.log.now _ _ _ _ c.loop-k.invariant.4 refl c.bad_place-bad.ensures.marks, used_more c.args.last.now c.args.log.now c.loop-k.k _ _ c.loop-k.marks c.loop-k.invariant.5 c.loop-k.invariant.4 c.bad_place-bad.ensures.value)
-
-pub returns : goal.returns
-returns c = let e : c.loop-k.k ≡ c.args.n = omega arith in record { value = rw e at c.loop-k.invariant.5; known = rw e at c.loop-k.invariant.3 }
+pub loop-place-preserved : goal.loop-place-preserved
+loop-place-preserved c =
+    let k = c.loop-place.place-index in
+    let place : get_or (take c.args.n c.args.log.now) k 0 ≡ get_or c.args.log.now k 0 = get_or-take c.args.n c.args.log.now k 0 (omega (arith, length-take c.args.n c.args.log.now)) in
+    let b = c.bad_place-bad.ensures in (
+      known_next c.args.known.now c.args.log.now c.loop-place.known c.bad_place-bad.new.known k c.loop-place.invariant.0 (rw place at b.known),
+      marks_more c.args.log.now k c.loop-place.marks c.bad_place-bad.new.marks _ c.loop-place.invariant.1 place b.marks,
+      used_more c.args.last.now c.args.log.now k c.loop-place.bad c.bad_place-bad.result c.loop-place.marks c.loop-place.invariant.2 c.loop-place.invariant.1 (rw place at b.value),
+    )

@@ -1,8 +1,8 @@
 use Rattle.lent_post.proofs.Ways.{fresh_made, fresh_refused}
 use Rattle.lent_post.proofs.by_value.fresh.Goals as goal
 
-pub returns-then-asked-eq0 : goal.returns-then-asked-eq0
-returns-then-asked-eq0 c = fresh_made _ _ _ _ _ _ c.fresh-asked.ensures c.if-asked-eq0.true
+pub returns-in-Ok : goal.returns-in-Ok
+returns-in-Ok c = fresh_made c.args.p c.in-Ok.post _ _ _ _ c.in-Ok.ensures
 
-pub returns-else-asked-eq0 : goal.returns-else-asked-eq0
-returns-else-asked-eq0 c = fresh_refused _ _ _ _ _ _ c.fresh-asked.ensures c.if-asked-eq0.false
+pub returns-in-Err : goal.returns-in-Err
+returns-in-Err c = rw c.into.ensures (fresh_refused c.args.p _ _ _ _ c.in-Err.refusal c.in-Err.ensures)

@@ -1,19 +1,16 @@
-use mathlib.Core.Path.{refl}
-use Rattle.lines.specs.Lines.{yard_or, yard_line}
-use Rattle.lines.specs.declared.YardScan.{YardScan}
-use Rattle.reader.proofs.LinesLaws.{or_yes, or_no, yard_yes, yard_no}
+use Rattle.std.proofs.lemmas.Bool.{not-true, not-false}
+use Rattle.lines.specs.Lines.{yard_or}
+use Rattle.reader.proofs.LinesLaws.{yard_yes, yard_no}
 use Rattle.reader.proofs.line_forms.first_yard.Goals as goal
 
-pub returns-then-y-2 : goal.returns-then-y-2
+pub returns-then-not-y : goal.returns-then-not-y
 unfolding yard_or
-returns-then-y-2 c =
-    or_yes (λ (x : YardScan). x.ok) (yard_line _) _ _ _ _ c.read_yard-y.ensures c.if-y.true (yard_yes _ c.if-y-2.true)
+returns-then-not-y c = rw (← c.read_yard-y.ensures, not-true _ c.if-not-y.true)
 
-pub returns-else-y-2 : goal.returns-else-y-2
+pub returns-then-not-y-2 : goal.returns-then-not-y-2
 unfolding yard_or
-returns-else-y-2 c =
-    or_yes (λ (x : YardScan). x.ok) (yard_line _) _ _ _ _ c.read_yard-y.ensures c.if-y.true (yard_no _ c.if-y-2.false)
+returns-then-not-y-2 c = rw (← c.read_yard-y.ensures, not-false _ c.if-not-y.false) (yard_no _ c.then-not-y-2.either)
 
-pub returns-else-y : goal.returns-else-y
+pub returns : goal.returns
 unfolding yard_or
-returns-else-y c = or_no (λ (x : YardScan). x.ok) _ _ _ _ _ c.read_yard-y.ensures c.if-y.false refl
+returns c = rw (← c.read_yard-y.ensures, not-false _ c.if-not-y.false) (yard_yes _ c.if-not-y-2.false c.if-y-eq0.false)

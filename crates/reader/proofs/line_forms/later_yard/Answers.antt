@@ -1,13 +1,11 @@
-use mathlib.Core.Path.{refl}
-use Rattle.lines.specs.Lines.{yard_or, yard_line}
-use Rattle.lines.specs.declared.YardScan.{YardScan}
-use Rattle.reader.proofs.LinesLaws.{or_yes, or_no, yard_late}
+use Rattle.lines.specs.Lines.{yard_or}
+use Rattle.reader.proofs.LinesLaws.{yard_late}
 use Rattle.reader.proofs.line_forms.later_yard.Goals as goal
 
-pub returns-then-y : goal.returns-then-y
+pub returns-then-read_yard : goal.returns-then-read_yard
 unfolding yard_or
-returns-then-y c = or_yes (λ (x : YardScan). x.ok) (yard_line _) _ _ _ _ c.read_yard-y.ensures c.if-y.true (yard_late _ _ c.requires)
+returns-then-read_yard c = rw (← c.read_yard.ensures, c.if-read_yard.true) (yard_late _ _ c.requires)
 
-pub returns-else-y : goal.returns-else-y
+pub returns-else-read_yard : goal.returns-else-read_yard
 unfolding yard_or
-returns-else-y c = or_no (λ (x : YardScan). x.ok) _ _ _ _ _ c.read_yard-y.ensures c.if-y.false refl
+returns-else-read_yard c = rw (← c.read_yard.ensures, c.if-read_yard.false)

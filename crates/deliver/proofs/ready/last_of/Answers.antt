@@ -1,9 +1,0 @@
-use native.Mathlib.Omega.{arith}
-use mathlib.Core.Path.{sym}
-use Rattle.row.specs.Rows.{post_in}
-use Rattle.row.proofs.Laws.{part_get}
-use Rattle.deliver.proofs.ready.last_of.Goals as goal
-
-pub returns : goal.returns
-unfolding post_in
-returns c = sym (part_get c.args.row.now 6 8 c.args.lane (omega arith))

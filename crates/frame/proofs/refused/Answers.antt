@@ -1,4 +1,0 @@
-use Rattle.frame.proofs.refused.Goals as goal
-
-pub returns : goal.returns
-returns c = rw c.none-frame.ensures

@@ -1,7 +1,0 @@
-use native.Mathlib.Omega.{arith}
-use lib.ListN.{get_or-eq_default}
-use mathlib.Core.Path.{sym}
-use Rattle.row.proofs.get.Goals as goal
-
-pub returns-else-i-row : goal.returns-else-i-row
-returns-else-i-row c = sym (get_or-eq_default c.args.row.now 0 {n = c.args.i} (omega arith))

@@ -1,6 +1,0 @@
-use Rattle.row.specs.Rows.{post_in}
-use Rattle.row.proofs.last_taken.Goals as goal
-
-pub returns : goal.returns
-unfolding post_in
-returns c = c.get_in.ensures

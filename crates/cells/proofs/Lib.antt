@@ -1,2 +1,3 @@
-pub mod Places
 pub mod Copies
+pub mod Laws
+pub mod Places

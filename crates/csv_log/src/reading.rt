@@ -59,6 +59,7 @@ fn read_records(file: &[u8], from: usize, found: &mut [u16; NUMBERS]) -> Result<
 {
     let mut seen = Seen::new();
     let mut at = from;
+    // Where a record begins, the one before it tells.
     while at < file.len() {
         match take_record(file, at, &mut seen, found) {
             Ok(next) => at = next,

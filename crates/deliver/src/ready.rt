@@ -46,7 +46,7 @@ pub(crate) fn least_of(row: &[u16; LENGTH]) -> Option<Stamp>
 {
     let sources = row::read_numbers(row).sources;
     let mut least = None;
-    // A count: a lane is a bit of the sources, a cell of the last serials and 17 of the table (d).
+    // A count: a lane is a bit of the sources, a cell of the last serials and 17 of the table.
     for i in 0..row::LANES {
         let heard = heard_under(row, i, last_of(row, i));
         least = lower(least, cells::has(sources, i), heard);
@@ -83,7 +83,7 @@ pub(crate) fn any_ready(row: &[u16; LENGTH], least: Option<Stamp>) -> bool
     ensures { result ≡ any_below (ready_in (known_in row.now) (post_in row.now).last (post_in row.now).stamps least) 8 }
 {
     let mut ready = false;
-    // A count: a lane is a cell of what is known, one of the last serials and 16 of the stamps (d).
+    // A count: a lane is a cell of what is known, one of the last serials and 16 of the stamps.
     for lane in 0..row::LANES {
         ready |= ready_in(lane, row, least);
     }

@@ -39,7 +39,8 @@ pub struct Entry {
     pub stamp: Stamp,
 }
 
-// A broadcast: an order frame (a flooded message) or a beacon (entries alone), with an entry for each lane.
+// A broadcast: an order frame (a flooded message) or a beacon (entries alone), with an entry for each lane. Its kind is a number,
+// since the writer refuses a bad one by 7.
 #[derive(Clone, Copy, Debug, PartialEq, Eq)]
 pub struct Frame {
     pub kind: u8,
@@ -64,7 +65,7 @@ impl Frame {
 
     pub const BEACON: u8 = 2;
 
-    // No frame: 0 in every field.
+    // No frame: 0 in every field. Nothing here calls it any more; its contract stands.
     pub fn none() -> Self
         ensures { result ≡ no_frame }
     {
@@ -125,7 +126,7 @@ impl Frame {
     }
 }
 
-// The number that the radio firmware gets for a received frame: 0, or 6 to 11.
+// The number that the radio firmware gets for a received frame: 0, or 6 to 11. A number here and in the next two, for C.
 pub fn drift_frame_check(bytes: &[u8]) -> u8
     ensures { result ≡ read_refusal bytes.now }
 {

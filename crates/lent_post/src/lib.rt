@@ -26,7 +26,7 @@ pub(crate) struct Stepped {
     pub post: Post,
 }
 
-// Makes the record a fresh post by lane and roles: 0, or the refusal (12, 21) with the record as it was.
+// Makes the record a fresh post by lane and roles: 0, or the refusal (12, 21) with the record as it was. Numbers here and below, for C.
 pub fn drift_post_fresh(p: &mut Post, lane: u8, posts: u8, sources: u8, dests: u8) -> u8
     ensures { (result ≡ fresh_refusal lane posts sources dests) × (p.new ≡ fresh_kept p.old lane posts sources dests) }
 {

@@ -8,7 +8,7 @@ ghost use Rattle.lines.specs.Lines.{next_of};
 use refusal::Refusal;
 
 // How far a yard line was read: its posts, sources and destinations so far as sets of eight bits, and whether its lanes
-// rise and are at most 7.
+// rise and are at most 7. A flag, as in a `Scan`.
 #[derive(Clone, Copy)]
 pub struct YardScan {
     pub ok: bool,

@@ -77,7 +77,7 @@ fn byte(n: u16) -> u8
     (n % 256) as u8
 }
 
-// Here and in `narrow` by index: of a loop over `iter_mut().zip(from)` nothing tells what it has written, so no proof closed.
+// Here and in `narrow` the index is of both: of a loop over `iter_mut().zip(from)` nothing tells what it has written, so no proof closed.
 fn widen(from: &[u8], to: &mut [u16])
     requires { length to.old ≡ length from.now }
     ensures { to.new ≡ from.now }

@@ -61,6 +61,7 @@ fn judge_lines(s: &[u8]) -> Result<u16, BadLine>
 {
     let mut at = 0;
     let mut line = 0;
+    // Where a line begins, the one before it tells.
     while at < s.len() {
         line += 1;
         let l = read_line(s, at);

@@ -31,7 +31,7 @@ fn check_step(of_form: bool, at: usize, lane: u32, word: u32) -> Result<(), Refu
     Ok(())
 }
 
-// An order, or its refusal.
+// An order, or its refusal. Each form makes another line of its numbers, so the four stay apart.
 pub(crate) fn read_order_line(s: &[u8], at: usize) -> Result<Line, Refusal>
     ensures { line_answer result ≡ cond (read_form s.now order_form at).ok (order_line at (read_form s.now order_form at)) (Refused 2) }
 {

@@ -18,6 +18,7 @@ use row::SerialCell;
 // of the two loans, or a closure for a lane's steps, would add to every contract what it leaves of them.
 type Cells = [u16; state::LENGTH];
 
+// The loops go by a lane's number: it picks a bit of the sets, a row of the state and a cell of it.
 const LANES: u8 = state::LANES as u8;
 
 // The roll call: hearings of first frames, beacons, hearings of the beacons (12, 13, 27). It gives how many single steps it ran: in a

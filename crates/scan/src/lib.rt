@@ -6,7 +6,8 @@ ghost use Rattle.std.specs.Option.{unwrap_or};
 ghost use Rattle.std.specs.Prelude.{◌≡◌, true, ◌<◌, length, get_or, IfSome};
 ghost use Rattle.scan.specs.Scan.{stands, digit_at, start_at, failed, read_text, first_digit, next_digit, read_number};
 
-// How far a text was read: whether all was of the form so far, the place reached, and the last two numbers read.
+// How far a text was read: whether all was of the form so far, the place reached, and the last two numbers read. A flag and no
+// `Option`, since the clauses of `read_text` and the others say where a failed scan stays.
 #[derive(Clone, Copy)]
 pub struct Scan {
     pub ok: bool,

@@ -113,6 +113,7 @@ fn run_lines(
     let mut at = from;
     let mut line = 1u16;
     let mut answer = told::told(0, 7, 0, 0, 0, 0);
+    // Where a line begins, the one before it tells.
     while at < script.len() {
         let l = reader::read_line(script, at);
         answer = line_steps::run_step(state, air, l);

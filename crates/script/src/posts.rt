@@ -14,6 +14,7 @@ pub(crate) fn put_posts(output: &mut Writer<'_>, state: &Cells)
     ensures { Wrote output.old output.new (posts_text (yard_in state.now) 8) }
 {
     let present = state[state::PRESENT];
+    // By number: a lane picks its bit of the set and its row.
     for lane in 0..8u16 {
         put_row(output, state, present, lane);
     }

@@ -29,6 +29,7 @@ impl Roles {
         ensures fresh_below { FreshBelow state.new self.present self.sources self.dests 8 }
         ensures front { SameFront state.old state.new }
     {
+        // By place: of `chunks_exact_mut` a proof knows no more than the length that it leaves.
         for lane in 0..LANES {
             let start = ROWS + row::LENGTH * lane;
             self.lay_row(&mut state[start..start + row::LENGTH], lane as u16);

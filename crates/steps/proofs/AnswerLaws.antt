@@ -10,8 +10,9 @@ use Rattle.post.specs.declared.Post.{Post}
 use Rattle.post.specs.Record.{last_of}
 use Rattle.post.specs.Taking.{kept, ticked, own_taken}
 use Rattle.deliver.specs.Known.{delivered_from}
-use Rattle.steps.specs.Refusals.{is_order, is_next, order_refusal, hear_refusal}
-use Rattle.steps.specs.Answers.{order_number, hear_number}
+use Rattle.steps.specs.Refusals.{is_order, is_next, order_refusal, hear_refusal, beacon_refusal}
+use Rattle.steps.specs.Steps.{beacon_step}
+use Rattle.steps.specs.Answers.{order_number, hear_number, beacon_number}
 use Rattle.steps.specs.Values.{order_serial, order_stamp, order_count, order_step_serial, order_step_stamp, hear_count}
 use Rattle.steps.specs.Knowing.{orders_by, order_count_by, hear_took, passed_answer, hears_by, hear_count_by}
 use Rattle.steps.specs.OrderAnswer.{OrderAnswer}
@@ -54,3 +55,12 @@ hear_answers known p f = go (eqb (hear_refusal p f) 0) refl
         let v = passed_values f (last_of p f.lane) (delivered_from known (hear_took p f)).count in
         rw (e, eqb-true (hear_refusal p f) 0 e) v
     go false e = rw e (refl, refl)
+
+-- a beacon's number
+pub beacon_number_lem : (p : Post) → beacon_number (beacon_step p).answer ≡ beacon_refusal p
+unfolding beacon_step
+beacon_number_lem p = go (eqb (beacon_refusal p) 0) refl
+  where
+    go : (b : Bool) → eqb (beacon_refusal p) 0 ≡ b → beacon_number (beacon_step p).answer ≡ beacon_refusal p
+    go true e = rw e (sym (eqb-true (beacon_refusal p) 0 e))
+    go false e = rw e

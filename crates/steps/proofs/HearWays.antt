@@ -180,3 +180,6 @@ pub hear_stays : (l : List ℕ) (f : Frame) (r : Result RowHeard Refusal) (e : R
     → HearDone l l f r
 unfolding hears_by hear_step
 hear_stays l f r e er en = rw er (hear_done l l f (Err e) (rw (sym en, refusal_some e)))
+
+pub is_source_lem : (p : Post) (t : Bool) (lane sources : ℕ) → lane ≡ p.lane → sources ≡ p.sources → t ≡ has_lane sources lane → t ≡ has_lane p.sources p.lane
+is_source_lem p t lane sources el es et = rw (el, es) at et

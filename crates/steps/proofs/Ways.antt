@@ -119,3 +119,11 @@ order_stays l word r e er en = rw er (order_done l l word (Err e) (rw (sym en, r
 pub entries_sent : (l : List ℕ) (lane : ℕ) → has_lane (post_in l).posts lane ≡ true → entries_in l ≡ newest_entries (post_in l).table
 unfolding post_in
 entries_sent l lane y = entries_whole l (whole l lane y)
+
+-- a row in whose set of posts its lane is, is whole, and of a lane
+pub in_yard_lem : (l : List ℕ) (lane posts : ℕ) (t : Bool) → lane ≡ (post_in l).lane → posts ≡ (post_in l).posts → t ≡ has_lane posts lane → t ≡ true
+    → (543 ≤ length l) × (lane < 8)
+unfolding post_in
+in_yard_lem l lane posts t el ep et s =
+    let y : has_lane (post_in l).posts lane ≡ true = rw ep at (sym et ∙ s) in
+    (whole l lane y, has_lane_lem (post_in l).posts lane y)

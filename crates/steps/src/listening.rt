@@ -114,8 +114,7 @@ fn beyond_own(row: &[u16], f: Frame) -> bool
         || (own.stamp.0 != 0 && (serial.0 < own.serial.0 as u16 || clock.0 < own.stamp.0))
 }
 
-// Part 1: each entry raises the table. Rows stay slices here and below: as arrays, each function would promise its row's length in place
-// of asking for it, and each step would have one more way out (d).
+// Part 1: each entry raises the table. Rows stay slices here and below: with arrays the proofs of `order` and `hear` did not close.
 pub(crate) fn raise_all(row: &mut [u16], entries: &[Entry; Frame::LANES])
     requires { 543 ≤ length row.old }
     ensures row_after { post_in row.new ≡ with_table (post_in row.old) (raised_below (post_in row.old).table entries.now 8) }

@@ -42,7 +42,7 @@ pub(crate) fn check(row: &[u16]) -> Result<(), Refusal>
     Ok(())
 }
 
-// The post takes its own order, and broadcasts it. A slice, as in `raise_all` (d).
+// The post takes its own order, and broadcasts it. A slice, as in `raise_all`.
 pub(crate) fn send(row: &mut [u16], word: u16) -> Frame
     requires { (543 ≤ length row.old) × ((post_in row.old).lane < 8) × ((post_in row.old).clock.0 < 65535) × ((post_in row.old).serial.0 < 16) }
     ensures value { result ≡ (order_sent (post_in row.old) word).frame }

@@ -42,7 +42,7 @@ impl<'a> Writer<'a> {
     pub fn put_byte(&mut self, x: u8)
         ensures { Wrote self.old self.new (x ∷ []) }
     {
-        // (c) By index: no proof closed that what `get_mut` lends of the field comes back.
+        // By index: no proof closed that what `get_mut` lends of the field comes back.
         if self.at < self.buffer.len() {
             self.buffer[self.at] = x;
             self.at += 1;

@@ -12,10 +12,8 @@ use Rattle.refusal.specs.Numbers.{refusal_number}
 use Rattle.refusal.proofs.Refused.{never_0}
 use Rattle.single.specs.Outcomes.{FreshPost, Ordered, Heard, fresh_answer}
 use Rattle.single.specs.Single.{fresh_refusal, fresh_singly, order_singly, hear_singly}
-use Rattle.lent_post.specs.declared.Made.{Made}
-use Rattle.lent_post.specs.declared.Stepped.{Stepped}
 use Rattle.told.specs.Told.{order_told, hear_told}
-use Rattle.lent_post.specs.Lent.{fresh_kept, lent_fresh, lent_order, lent_hear}
+use Rattle.lent_post.specs.Lent.{Made, Stepped, fresh_kept, lent_fresh, lent_order, lent_hear}
 
 -- the number that `single::fresh` gives is the refusal's
 fresh_number : (lane posts sources dests : ℕ) → (fresh_singly lane posts sources dests).refusal ≡ fresh_refusal lane posts sources dests

@@ -4,15 +4,21 @@ use Rattle.std.specs.Prelude.{ℕ, cond, List, eqb}
 use Rattle.post.specs.declared.Post.{Post}
 use Rattle.post.specs.Record.{fresh_post}
 use Rattle.single.specs.Single.{fresh_refusal, order_singly, hear_singly}
-use Rattle.lent_post.specs.declared.Made.{Made}
-use Rattle.lent_post.specs.declared.Stepped.{Stepped}
 use Rattle.told.specs.Told.{order_told, hear_told}
 
 -- the record after a fresh post was asked for: a refusal (12, 21) leaves it
 unfoldable pub fresh_kept : Post → ℕ → ℕ → ℕ → ℕ → Post
 fresh_kept p lane posts sources dests = cond (eqb (fresh_refusal lane posts sources dests) 0) (fresh_post lane posts sources dests) p
 
--- what the functions by value hand to those that store the record
+-- what a fresh post and a step by value hand to the functions that store the record
+pub record Made : Type 0 where
+  pub refusal : ℕ
+  pub post : Post
+
+pub record Stepped : Type 0 where
+  pub answer : ℕ
+  pub post : Post
+
 abbrev pub lent_fresh : Post → ℕ → ℕ → ℕ → ℕ → Made
 lent_fresh p lane posts sources dests = record { refusal = fresh_refusal lane posts sources dests; post = fresh_kept p lane posts sources dests }
 

@@ -1,9 +1,9 @@
 // A post run singly: the entries for hosts and firmware. Each judges everything that it is handed, the record too (12),
 // and a refusal leaves post and buffer as they were. The record is put into a row, the step runs there, and the row's record
-// is handed back. The contracts cite specs/Single.antt, through specs/Outcomes.antt; that of `judged_row` specs/Judged.antt.
+// is handed back. The contracts cite specs/Single.antt, through specs/Outcomes.antt; that of `put_judged` specs/Judged.antt.
 #![tactic(auto)]
 
-ghost use Rattle.std.specs.Prelude.{◌≡◌, cond, IfOk};
+ghost use Rattle.std.specs.Prelude.{◌≡◌, cond, IsOk};
 ghost use Rattle.refusal.specs.Numbers.{refused_with};
 ghost use Rattle.frame.specs.Refusals.{bad_length};
 ghost use Rattle.judge.specs.Judgement.{record_refusal};
@@ -37,7 +37,7 @@ pub fn fresh(lane: u8, posts: u8, sources: u8, dests: u8) -> Result<Post, Refusa
     ensures { fresh_answer result ≡ fresh_singly lane posts sources dests }
 {
     let post = Post::new(lane, posts, sources, dests);
-    judged_row(post)?;
+    put_judged(&mut [0; row::LENGTH], post)?;
     if !cells::has(posts as u16, lane as u16) {
         return Err(Refusal::NotInYard);
     }
@@ -54,7 +54,8 @@ pub fn order(p: Post, word: u16, buffer: &mut [u8]) -> Result<Ordered, Refusal>
     ensures count { order_count (ordered_answer p result).answer ≡ order_count_singly p word buffer.old }
 {
     check_length(buffer)?;
-    let mut row = judged_row(p)?;
+    let mut row = [0; row::LENGTH];
+    put_judged(&mut row, p)?;
     let RowOrdered { sent, frame } = steps::order(&mut row, word)?;
     air::write(buffer, 0, frame)?;
     let post = post_row::store(&row);
@@ -70,7 +71,8 @@ pub fn hear(p: Post, bytes: &[u8], buffer: &mut [u8]) -> Result<Heard, Refusal>
 {
     check_length(buffer)?;
     let f = Frame::read(bytes)?;
-    let mut row = judged_row(p)?;
+    let mut row = [0; row::LENGTH];
+    put_judged(&mut row, p)?;
     let RowHeard { hearing, frame } = steps::hear(&mut row, f)?;
     if let Some(passed_on) = frame {
         air::write(buffer, 0, passed_on)?;
@@ -86,7 +88,8 @@ pub fn beacon(p: Post, buffer: &mut [u8]) -> Result<(), Refusal>
     ensures number { refused_with result ≡ beacon_refusal_singly p buffer.old }
 {
     check_length(buffer)?;
-    let row = judged_row(p)?;
+    let mut row = [0; row::LENGTH];
+    put_judged(&mut row, p)?;
     air::write(buffer, 0, steps::beacon(&row)?)
 }
 
@@ -100,13 +103,13 @@ fn check_length(buffer: &[u8]) -> Result<(), Refusal>
     Ok(())
 }
 
-// The record in a row of its own, which is judged there (12).
-fn judged_row(p: Post) -> Result<[u16; row::LENGTH], Refusal>
+// The record is put into the row, and judged there (12). The row is lent and the code stands in its callers: a row given back, or
+// a record handed on, is a copy on a stack of a few KB.
+#[inline(always)]
+fn put_judged(row: &mut [u16; row::LENGTH], p: Post) -> Result<(), Refusal>
     ensures number { refused_with result ≡ record_refusal p }
-    ensures row { IfOk result (Judged p) }
+    ensures row { IsOk result → Judged p row.new }
 {
-    let mut row = [0; row::LENGTH];
-    post_row::load(&mut row, p);
-    judge::judge(&mut row)?;
-    Ok(row)
+    post_row::load(row, p);
+    judge::judge(row)
 }

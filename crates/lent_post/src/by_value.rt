@@ -31,7 +31,7 @@ pub(crate) fn order(p: Post, word: u16, buffer: &mut [u8]) -> Stepped
             post,
         },
         Err(refusal) => Stepped {
-            answer: order_told(Err(refusal)),
+            answer: order_told(Err(refusal.into())),
             post: p,
         },
     }
@@ -47,7 +47,7 @@ pub(crate) fn hear(p: Post, frame: &[u8], buffer: &mut [u8]) -> Stepped
             post,
         },
         Err(refusal) => Stepped {
-            answer: hear_told(Err(refusal)),
+            answer: hear_told(Err(refusal.into())),
             post: p,
         },
     }

@@ -64,7 +64,7 @@ fn step(post: &mut Post, line: Result<Line, Refusal>, air: &[u8], buffer: &mut [
             if let Ok(Ordered { post: after, .. }) = answer {
                 *post = after;
             }
-            told::order_told(answer.map(|ordered| ordered.sent))
+            told::order_told(answer.map(|ordered| ordered.sent).map_err(u8::from))
         }
         Ok(Line::Hear { frame, .. }) => {
             let frame = air::stretch(air, air::FRAMES, frame as usize);
@@ -72,7 +72,7 @@ fn step(post: &mut Post, line: Result<Line, Refusal>, air: &[u8], buffer: &mut [
             if let Ok(Heard { post: after, .. }) = answer {
                 *post = after;
             }
-            told::hear_told(answer.map(|heard| heard.hearing))
+            told::hear_told(answer.map(|heard| heard.hearing).map_err(u8::from))
         }
         _ => 0,
     }

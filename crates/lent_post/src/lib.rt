@@ -35,7 +35,7 @@ pub fn drift_post_order(p: &mut Post, word: u16, buffer: &mut [u8]) -> u64
             *p = ordered.post;
             told::order_told(Ok(ordered.sent))
         }
-        Err(refusal) => told::order_told(Err(refusal)),
+        Err(refusal) => told::order_told(Err(u8::from(refusal))),
     }
 }
 
@@ -50,7 +50,7 @@ pub fn drift_post_hear(p: &mut Post, frame: &[u8], buffer: &mut [u8]) -> u64
             *p = heard.post;
             told::hear_told(Ok(heard.hearing))
         }
-        Err(refusal) => told::hear_told(Err(refusal)),
+        Err(refusal) => told::hear_told(Err(u8::from(refusal))),
     }
 }
 

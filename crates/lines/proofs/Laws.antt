@@ -1,12 +1,17 @@
--- Laws of the refusals of a step's line. Assumes nothing.
+-- Laws of the refusals of a step's line, and of the place after a line. Assumes nothing.
 use mathlib.Core.Path.{◌≡◌, refl, sym}
 use mathlib.Core.Bool.{Bool, true, false, cond}
+use mathlib.Core.List.{List}
 use Prim.Native.Nat.{ℕ, zero, suc, ◌<◌}
 use native.Mathlib.Omega.{arith}
 use lib.Dec.{ltb, eqb, lit<}
 use borrow.Author.Tests.{ltb-false}
+use Rattle.std.specs.Prelude.{Result, Ok, Err}
+use Rattle.refusal.specs.declared.Refusal.{Refusal}
 use Rattle.scan.proofs.Laws.{never}
-use Rattle.lines.specs.Lines.{step_line_refusal}
+use Rattle.lines.specs.declared.Line as reads
+use Rattle.lines.specs.Line.{line_answer, line_or_none}
+use Rattle.lines.specs.Lines.{step_line_refusal, next_of}
 
 -- a chain of refusals that comes to 0 has passed its first test
 pub chain : (t : Bool) (k r : ℕ) → 0 < k → cond t k r ≡ 0 → (t ≡ false) × (r ≡ 0)
@@ -25,3 +30,8 @@ step_right at l w h =
     late : (n : ℕ) → eqb n 0 ≡ false → 0 < n
     late zero e = never (sym e)
     late (suc n) e = omega arith
+
+-- the place after a line does not depend on why it is refused
+pub next_whatever : (s : List ℕ) (r : Result reads.Line Refusal) → next_of s (line_or_none r) ≡ next_of s (line_answer r)
+next_whatever s (Ok l) = refl
+next_whatever s (Err refusal) = refl

@@ -25,3 +25,13 @@ line_answer (Ok (reads.TheVariants.Hear lane frame next)) = Hear lane frame next
 line_answer (Ok (reads.TheVariants.Beacon lane next)) = Beacon lane next
 line_answer (Ok (reads.TheVariants.Roll next)) = Roll next
 line_answer (Err refusal) = Refused (refusal_number refusal)
+
+-- the same of a result refused by a number, whatever number it is
+abbrev pub line_numbered : Result reads.Line ℕ → Line
+line_numbered (Ok l) = line_answer (Ok l)
+line_numbered (Err number) = Refused number
+
+-- the same where it does not matter why it is refused
+abbrev pub line_or_none : {E : Type 0} → Result reads.Line E → Line
+line_or_none (Ok l) = line_answer (Ok l)
+line_or_none (Err why) = Refused 0

@@ -2,8 +2,8 @@
 #![tactic(auto)]
 
 ghost use Rattle.std.specs.Prelude.{◌≡◌};
-ghost use Rattle.lines.specs.Line.{line_answer};
-ghost use Rattle.lines.specs.Lines.{next_of};
+ghost use Rattle.lines.specs.Line.{line_numbered, line_or_none};
+ghost use Rattle.lines.specs.Lines.{number_of, next_of};
 
 use refusal::Refusal;
 
@@ -57,9 +57,19 @@ pub struct BadLine {
 // The longest script, in bytes.
 pub const LONGEST: usize = 48000;
 
-// The place of the line after a line; nothing is read after a refused one.
-pub fn next_of(s: &[u8], l: Result<Line, Refusal>) -> usize
-    ensures { result ≡ next_of s.now (line_answer l) }
+// The number that a line is refused by, whatever number that is, or 0.
+pub fn number_of(l: Result<Line, u8>) -> u8
+    ensures { result ≡ number_of (line_numbered l) }
+{
+    match l {
+        Ok(_) => 0,
+        Err(number) => number,
+    }
+}
+
+// The place of the line after a line; nothing is read after a refused one, whatever it is refused by.
+pub fn next_of<E: Drop>(s: &[u8], l: Result<Line, E>) -> usize
+    ensures { result ≡ next_of s.now (line_or_none l) }
 {
     match l {
         Ok(

@@ -7,8 +7,8 @@ use Prim.Native.Nat.{ℕ, zero, suc, ◌+◌, ◌<◌, ◌≤◌}
 use native.Mathlib.Omega.{arith}
 use lib.ListN.{length, get_or}
 use lib.Dec.{ltb, leb, eqb}
-use borrow.Author.Tests.{ltb-true, ltb-false, leb-true, lt-leb, ne_eqb}
-use Rattle.scan.specs.Scan.{all_below, stands, failed, read_text}
+use borrow.Author.Tests.{ltb-true, ltb-false, leb-true, le-leb, lt-leb, ne_eqb}
+use Rattle.scan.specs.Scan.{all_below, same_bytes, stands, failed, read_text}
 use Rattle.scan.specs.declared.Scan.{Scan}
 use Rattle.scan.proofs.Laws.{both, never}
 
@@ -42,6 +42,10 @@ all_broken f i (suc n) e h = go (ltb i n) refl (all_broken f i n e)
 pub stands_past : (s t : List ℕ) (at : ℕ) → length s < at + length t → false ≡ stands s at t
 unfolding stands
 stands_past s t at h = rw (lt-leb _ _ h)
+
+pub stands_fits : (s t : List ℕ) (at : ℕ) (r : Bool) → at + length t ≤ length s → r ≡ same_bytes s at t → r ≡ stands s at t
+unfolding stands
+stands_fits s t at r h e = rw (le-leb _ _ h) e
 
 -- what stands somewhere does not run past the end
 pub stands_in : (s t : List ℕ) (at : ℕ) → stands s at t ≡ true → at + length t ≤ length s

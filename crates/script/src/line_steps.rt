@@ -55,12 +55,17 @@ pub(crate) fn run_step(state: &mut [u16], air: &mut [u8], l: Result<Line, Refusa
     match line {
         Line::Yard { .. } => no_step(),
         Line::Order { lane, word, .. } => {
-            told::order_told(yard::order(state, air, lane as usize, word as usize))
+            let answer = yard::order(state, air, lane as usize, word as usize);
+            told::order_told(answer.map_err(u8::from))
         }
         Line::Hear { lane, frame, .. } => {
-            told::hear_told(yard::hear(state, air, lane as usize, frame as usize))
+            let answer = yard::hear(state, air, lane as usize, frame as usize);
+            told::hear_told(answer.map_err(u8::from))
         }
-        Line::Beacon { lane, .. } => told::beacon_told(yard::beacon(state, air, lane as usize)),
+        Line::Beacon { lane, .. } => {
+            let answer = yard::beacon(state, air, lane as usize);
+            told::beacon_told(answer.map_err(u8::from))
+        }
         Line::Roll { .. } => roll_told(roll::call(state, air)),
     }
 }

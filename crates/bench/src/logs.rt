@@ -46,8 +46,10 @@ fn put_answered(came: &mut Writer<'_>, answer: u32, word: &[u8]) {
     }
 }
 
-// The number after each space of a text: the part of the lent numbers that they fill; none where they do not fit.
+// The number after each space of a text, but for one at its end: the part of the lent numbers that they fill; none where
+// they do not fit.
 fn take_numbers<'a>(text: &[u8], numbers: &'a mut [u16]) -> &'a [u16] {
+    let text = text.strip_suffix(b" ").unwrap_or(text);
     let many = text.iter().filter(|b| **b == b' ').count();
     let Some(numbers) = numbers.get_mut(..many) else {
         return &[];

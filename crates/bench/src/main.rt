@@ -13,7 +13,8 @@ mod yards;
 ghost use Rattle.std.specs.Io.{ReadsAtMost};
 ghost use Rattle.std.specs.Prelude.{◌≤◌};
 
-use cases::{Block, number_of};
+use cases::{Block, after, number_of};
+use scan::byte_at;
 use std::io;
 use std::io::Read;
 use text::Writer;
@@ -54,17 +55,17 @@ fn read_full(rt: &HostRuntime, buffer: &mut [u8]) -> io::Result<usize>
     Ok(done)
 }
 
-// Runs each case on the input that stands above it.
+// Runs each case on the input that stands above it. A line's first letter says what it heads.
 fn run_file(rt: &HostRuntime, file: &[u8]) -> io::Result<Counts> {
     let mut cases = 0usize;
     let mut same = 0usize;
-    let mut input = Block::first(b"");
+    let mut input = Block::first(file);
     let mut rest = file;
     while !rest.is_empty() {
         let block = Block::first(rest);
-        match block.word(0) {
-            b"input" => input = block,
-            b"case" => {
+        match rest {
+            [b'i', ..] => input = block,
+            [b'c', ..] => {
                 cases += 1;
                 if run_case(rt, input, block)? {
                     same += 1;
@@ -81,46 +82,54 @@ fn run_file(rt: &HostRuntime, file: &[u8]) -> io::Result<Counts> {
 fn run_case(rt: &HostRuntime, input: Block, case: Block) -> io::Result<bool> {
     let mut given = [0; 49152];
     let mut expected = [0; 8192];
-    let mut buffer = [0; script::OUTPUT];
+    let mut came = [0; script::OUTPUT];
     let given = input.put_text(&mut given);
     let expected = case.put_text(&mut expected);
-    let mut came = Writer::new(&mut buffer);
-    run_verb(case, input, given, expected, &mut came);
-    let n = came.at();
-    tell(rt, case.word(1), expected, buffer.get(..n).unwrap_or(&[]))
+    let set = after(input.heading, b't')
+        .strip_prefix(b" ")
+        .and_then(number_of);
+    let name = after(case.heading, b' ');
+    let verb = after(name, b' ');
+    let n = run_verb(verb, set.unwrap_or(air::LENGTH), given, expected, &mut came);
+    let name = &name[..name.len() - verb.len()];
+    tell(rt, name, expected, came.get(..n).unwrap_or(&[]))
 }
 
-// What the verb of a case gives. By its word in place: an enum of the verbs would say each word once more.
-fn run_verb(case: Block, input: Block, given: &[u8], expected: &[u8], came: &mut Writer<'_>) {
-    let set = number_of(input.word(1));
-    let air = set.unwrap_or(air::LENGTH);
-    let number = number_of(case.word(3)).unwrap_or(0);
-    match case.word(2) {
-        b"prints" => yards::prints(given, air, came),
-        b"answers" => yards::answers(given, air, true, came),
-        b"last" => yards::answers(given, air, false, came),
-        b"equals" => yards::equals(given, expected, air, came),
-        b"frame" => yards::frame(given, number, came),
-        b"number" => yards::number(given, came),
-        b"taken" => yards::taken(given, number, came),
-        b"singly" => posts::play(number, set.unwrap_or(0), given, came),
-        b"judges" => frames::judges(given, came),
-        b"reads" => frames::reads(given, came),
-        b"writes" => frames::writes(given, number, came),
-        b"composes" => logs::composes(given, number, came),
-        b"imports" => logs::imports(given, number, came),
+// What a verb gives: how many bytes; a script prints straight into the buffer. By the verb's first letter in place: an enum
+// of the verbs would say each once more.
+fn run_verb(verb: &[u8], set: usize, given: &[u8], expected: &[u8], buffer: &mut [u8]) -> usize {
+    let number = number_of(after(verb, b' ')).unwrap_or(0);
+    let letter = byte_at(verb, 0);
+    if letter == b'p' {
+        return yards::prints(given, set, buffer);
+    }
+    let mut came = Writer::new(buffer);
+    match letter {
+        b'a' => yards::answers(given, set, true, &mut came),
+        b'l' => yards::answers(given, set, false, &mut came),
+        b'e' => yards::equals(given, expected, set, &mut came),
+        b'f' => yards::frame(given, number, &mut came),
+        b'n' => yards::number(given, &mut came),
+        b't' => yards::taken(given, number, &mut came),
+        b's' => posts::play(number, set, given, &mut came),
+        b'j' => frames::judges(given, &mut came),
+        b'r' => frames::reads(given, &mut came),
+        b'w' => frames::writes(given, number, &mut came),
+        b'c' => logs::composes(given, number, &mut came),
+        b'i' => logs::imports(given, number, &mut came),
         _ => {}
     }
+    came.at()
 }
 
 // Prints the case's name and how it came out: whether it is the same.
 fn tell(rt: &HostRuntime, name: &[u8], expected: &[u8], came: &[u8]) -> io::Result<bool> {
     rt.write_all(name)?;
     if expected == came {
-        rt.write_all(b" same\n")?;
+        rt.write_all(b"same\n")?;
         return Ok(true);
     }
-    rt.write_all(b" DIFFERENT, came\n")?;
+    rt.write_all(b"DIFFERENT, came\n")?;
     rt.write_all(came)?;
     Ok(false)
 }

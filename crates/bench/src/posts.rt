@@ -1,28 +1,27 @@
 // One post of a script run singly: its own steps, with the frames that the whole script leaves on the air.
 use crate::answers::put_told;
-use crate::cases::Block;
-use crate::yards::Left;
+use crate::cases::{Block, after};
+use crate::yards::{LEFT, air_of, leave};
 use frame::{Frame, Stamp};
 use lines::Line;
 use post::Post;
 use refusal::Refusal;
+use scan::byte_at;
 use single::{Heard, Ordered};
 use text::Writer;
 
 // What each of the post's steps answers, and its buffer; then the post's line of the printout. By what is left and not by
 // `split`: a line is read at its place in the script.
 pub(crate) fn play(lane: usize, clock: usize, script: &[u8], came: &mut Writer<'_>) {
-    let left = Left::by(script, air::LENGTH);
+    let mut left = [0; LEFT];
+    leave(script, air::LENGTH, &mut left);
     let mut post = begin(script, (lane % Frame::LANES) as u8, (clock % 65536) as u16);
     let mut rest = Block::first(script).below;
     while !rest.is_empty() {
         if lane_of(rest) == post.lane {
             let line = reader::read_line(script, script.len() - rest.len());
             let mut buffer = [0; Frame::LENGTH];
-            put_told(
-                came,
-                step(&mut post, line, &left.air[..air::LENGTH], &mut buffer),
-            );
+            put_told(came, step(&mut post, line, air_of(&left), &mut buffer));
             came.put_text(&buffer);
         }
         rest = Block::first(rest).below;
@@ -34,9 +33,7 @@ pub(crate) fn play(lane: usize, clock: usize, script: &[u8], came: &mut Writer<'
 
 // The lane of a step's line: it stands after the first space, and b'0' is a multiple of 8.
 fn lane_of(line: &[u8]) -> u8 {
-    let space = line.iter().position(|&byte| byte == b' ');
-    let digit = space.and_then(|at| line.get(at.saturating_add(1)).copied());
-    digit.unwrap_or(0) % Post::LANES
+    byte_at(after(line, b' '), 0) % Post::LANES
 }
 
 // The fresh post of a lane, with this clock.

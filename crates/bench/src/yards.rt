@@ -3,75 +3,84 @@ use crate::answers::{put_cells, put_told};
 use crate::cases::Block;
 use text::Writer;
 
-// Bytes of the longest air.
+// Bytes of the longest air, and of all that a script leaves: the air, and two for each cell of the state.
 const AIR: usize = air::LENGTH + 1;
 
-// What a script leaves: its last answer, the air, and the cells of the state.
-#[derive(Drop)]
-pub(crate) struct Left {
-    told: u64,
-    pub(crate) air: [u8; AIR],
-    state: [u16; state::LENGTH],
-}
+pub(crate) const LEFT: usize = AIR + 2 * state::LENGTH;
 
-impl Left {
-    // What it leaves of an air of so many zeros.
-    pub(crate) fn by(script: &[u8], bytes: usize) -> Left {
-        let mut left = Left {
-            told: 0,
-            air: [0; AIR],
-            state: [0; state::LENGTH],
-        };
-        if let Some(air) = left.air.get_mut(..bytes) {
-            left.told = script::drift_script_state(script, air, &mut left.state);
-        }
-        left
-    }
+// Where the number of frames stands after a whole air, and the last serials that the post of lane 0 took.
+const FRAMES: usize = air::LENGTH + 2 * state::FRAMES;
 
-    // The same yard and the same air.
-    fn same(&self, other: &Left) -> bool {
-        self.air == other.air && self.state == other.state
-    }
-}
+const LAST: usize = air::LENGTH + 2 * (state::ROWS + row::LAST as usize);
 
-// What a script prints over an air of so many zeros. A script that is refused leaves them as they were.
-pub(crate) fn prints(script: &[u8], bytes: usize, came: &mut Writer<'_>) {
-    let mut air = [0; AIR];
-    let Some(air) = air.get_mut(..bytes) else {
-        return;
+// What a script leaves, of an air of so many zeros: the air, then the cells of the state, as far as they fit. Its last
+// answer.
+pub(crate) fn leave(script: &[u8], bytes: usize, left: &mut [u8; LEFT]) -> u64 {
+    let mut state = [0; state::LENGTH];
+    let Some(air) = left.get_mut(..bytes) else {
+        return 0;
     };
-    let mut output = [0; script::OUTPUT];
-    let n = script::drift_run_script(script, air, &mut output);
-    came.put_text(output.get(..n).unwrap_or(&[]));
-    if output.starts_with(b"(bad ") && air.iter().any(|b| *b != 0) {
-        came.put_text(b"changed\n");
+    let told = script::drift_script_state(script, air, &mut state);
+    put_cells(&mut Writer::starting_at(left, bytes), &state);
+    told
+}
+
+// The air at its front, a whole one.
+pub(crate) fn air_of(left: &[u8; LEFT]) -> &[u8] {
+    &left[..air::LENGTH]
+}
+
+// What a script prints over an air of so many zeros: how many bytes. A script that is refused leaves them as they were.
+pub(crate) fn prints(script: &[u8], bytes: usize, output: &mut [u8]) -> usize {
+    let mut air = [0; AIR];
+    let Some(lent) = air.get_mut(..bytes) else {
+        return 0;
+    };
+    let n = script::drift_run_script(script, lent, output);
+    let refused = output.starts_with(b"(bad ");
+    let mut printed = Writer::starting_at(output, n);
+    if refused && air != [0; AIR] {
+        printed.put_text(b"changed\n");
     }
+    printed.at()
 }
 
 // A frame.
 pub(crate) fn frame(script: &[u8], k: usize, came: &mut Writer<'_>) {
-    let left = Left::by(script, air::LENGTH);
-    came.put_text(air::stretch(&left.air[..air::LENGTH], air::FRAMES, k));
+    let mut left = [0; LEFT];
+    leave(script, air::LENGTH, &mut left);
+    came.put_text(air::stretch(air_of(&left), air::FRAMES, k));
 }
 
 // How many frames are on the air.
 pub(crate) fn number(script: &[u8], came: &mut Writer<'_>) {
-    let left = Left::by(script, air::LENGTH);
-    put_cells(came, &[left.state[state::FRAMES]]);
+    let mut left = [0; LEFT];
+    leave(script, air::LENGTH, &mut left);
+    came.put_text(&left[FRAMES..FRAMES + 2]);
 }
 
 // The last serials that a post took.
 pub(crate) fn taken(script: &[u8], post: usize, came: &mut Writer<'_>) {
-    let left = Left::by(script, air::LENGTH);
-    let start = state::ROWS + row::LENGTH * (post % state::LANES) + row::LAST as usize;
-    put_cells(came, &left.state[start..start + state::LANES]);
+    let mut left = [0; LEFT];
+    leave(script, air::LENGTH, &mut left);
+    let start = LAST + 2 * row::LENGTH * (post % state::LANES);
+    came.put_text(&left[start..start + 2 * state::LANES]);
 }
 
 // The other script where both leave the same yard and the same air, else nothing.
 pub(crate) fn equals(script: &[u8], other: &[u8], bytes: usize, came: &mut Writer<'_>) {
-    if Left::by(script, bytes).same(&Left::by(other, bytes)) {
+    let mut left = [0; LEFT];
+    leave(script, bytes, &mut left);
+    if leaves(other, bytes, &left) {
         came.put_text(other);
     }
+}
+
+// Whether a script leaves this yard and this air.
+fn leaves(script: &[u8], bytes: usize, left: &[u8; LEFT]) -> bool {
+    let mut right = [0; LEFT];
+    leave(script, bytes, &mut right);
+    right == *left
 }
 
 // What each step answers, or the last one alone. By what is left and not by `split`: a step needs the script up to its
@@ -91,9 +100,10 @@ pub(crate) fn answers(script: &[u8], bytes: usize, every: bool, came: &mut Write
 
 // What the last step of a script answers. A refused one leaves yard and air as the script before it does.
 fn put_answer(came: &mut Writer<'_>, before: &[u8], script: &[u8], bytes: usize) {
-    let left = Left::by(script, bytes);
-    put_told(came, left.told);
-    if left.told % 256 != 0 && !left.same(&Left::by(before, bytes)) {
+    let mut left = [0; LEFT];
+    let told = leave(script, bytes, &mut left);
+    put_told(came, told);
+    if told % 256 != 0 && !leaves(before, bytes, &left) {
         came.put_text(b"changed\n");
     }
 }

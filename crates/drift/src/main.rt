@@ -3,7 +3,7 @@
 // the status is 1 only where the input cannot be read or the output not be written.
 #![tactic(auto)]
 
-ghost use Rattle.std.specs.Prelude.{◌≤◌, length};
+ghost use Rattle.std.specs.Prelude.{◌≡◌, ◌≤◌, length, IfSome};
 ghost use Rattle.std.specs.Io.{ReadsAtMost};
 
 use commands::NotMade;
@@ -62,9 +62,12 @@ fn lane_of(word: &[u8]) -> Option<u8> {
 }
 
 // Argument i, where it is there and fits the buffer.
-fn argument<'a>(rt: &HostRuntime, i: usize, buffer: &'a mut [u8; WORD]) -> Option<&'a [u8]> {
+fn argument<'a>(rt: &HostRuntime, i: usize, buffer: &'a mut [u8; WORD]) -> Option<&'a [u8]>
+    ensures within { IfSome result (λ word. length word.now ≤ length buffer.old) }
+    ensures front { IfSome result (λ word. word.ref_ptr ≡ buffer.entry.ref_ptr) }
+{
     let n = rt.arg(i, buffer).ok()?;
-    buffer.get(..n)
+    Some(&buffer[..n])
 }
 
 // How many arguments the program was started with, its own name among them; 4 for all that are more.

@@ -71,15 +71,10 @@ pub fn beacon(state: &mut [u16], air: &mut [u8], lane: usize) -> Result<(), Refu
     ensures number { refused_with result ≡ beacon_refusal_in (held_in state.old) air.old lane }
 {
     parts::check(state, lane)?;
-    if air.len() != air::LENGTH {
-        return Err(Refusal::BadAir);
-    }
     let start = state::ROWS + row::LENGTH * lane;
-    let frame = steps::beacon(&state[start..start + row::LENGTH])?;
     let sent = row::get_in(state, state::BEACONS_SENT, row::LANES, lane);
-    if BEACONS <= sent {
-        return Err(Refusal::BeaconsSpent);
-    }
+    parts::check_beacon(&state[start..start + row::LENGTH], air, sent)?;
+    let frame = steps::beacon(&state[start..start + row::LENGTH])?;
     row::put_in(state, state::BEACONS_SENT, row::LANES, lane, sent + 1);
     parts::broadcast(state, air, frame);
     Ok(())

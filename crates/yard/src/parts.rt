@@ -5,8 +5,9 @@ ghost use Rattle.air.specs.Air.{frames_with};
 ghost use Rattle.cells.specs.Tables.{order_place};
 ghost use Rattle.row.specs.Rows.{put_in, post_in};
 ghost use Rattle.steps.specs.Refusals.{not_in_yard};
-ghost use Rattle.yard.specs.Singles.{frames_after, stops_hearing, frame_at};
+ghost use Rattle.yard.specs.Singles.{frames_after, stops_hearing, frame_at, stops_beacon};
 
+use crate::BEACONS;
 use frame::{Frame, Serial};
 use refusal::Refusal;
 use row::{Numbers, SerialCell};
@@ -68,4 +69,21 @@ pub(crate) fn note_first(state: &mut [u16], lane: u8, serial: Serial, before: u1
         let place = row::order_place(lane, SerialCell(serial.0 as u16));
         row::put_in(state, state::FIRST, row::ORDERS, place, before);
     }
+}
+
+// What stops a beacon of the post of a row, which has sent so many (13, 21, 27), before its broadcast is made.
+pub(crate) fn check_beacon(row: &[u16], air: &[u8], beacons: u16) -> Result<(), Refusal>
+    ensures { refused_with result ≡ stops_beacon air.now (post_in row.now) beacons }
+{
+    if air.len() != air::LENGTH {
+        return Err(Refusal::BadAir);
+    }
+    let Numbers { lane, posts, .. } = row::read_numbers(row);
+    if !cells::has(posts, lane) {
+        return Err(Refusal::NotInYard);
+    }
+    if BEACONS <= beacons {
+        return Err(Refusal::BeaconsSpent);
+    }
+    Ok(())
 }

@@ -1,6 +1,6 @@
 -- Laws of cells that are copied. Assumes nothing.
 use mathlib.Core.Path.{◌≡◌, refl, ap₂, ◌∙◌}
-use mathlib.Core.List.{List, [], ◌++◌}
+use mathlib.Core.List.{List, [], ◌++◌, append-nil}
 use Prim.Native.Nat.{ℕ, ◌<◌, ◌≤◌, min}
 use native.Mathlib.Omega.{arith}
 use native.Mathlib.Decide.{dec_lt}
@@ -22,6 +22,11 @@ copy_done from to l n e p = p ∙ go (dec_lt (length from) (length to))
         let a : drop (length to) to ≡ [] = drop_of_length-le to {i = length to} (omega arith) in
         let b : drop (length from) to ≡ [] = drop_of_length-le to {i = length from} (omega arith) in
         rw (z, a, b)
+
+-- into as many cells
+pub copied_whole : (from to : List ℕ) → length to ≡ length from → copied from to ≡ from
+unfolding copied
+copied_whole from to e = ap₂ ◌++◌ (take_all (length to) from (omega arith)) (drop_of_length-le to {i = length from} (omega arith)) ∙ append-nil from
 
 -- the first n of some into no fewer
 pub copied_front : (s to : List ℕ) (n : ℕ) → n ≤ length s → n ≤ length to → copied (take n s) to ≡ take n s ++ drop n to

@@ -1,31 +1,93 @@
 -- What `csv-read` prints is what reading gives, and it is short. Assumes nothing.
 use mathlib.Core.Path.{◌≡◌, refl, sym, ap, ◌∙◌}
-use mathlib.Core.Bool.{Bool, true, false, cond}
+use mathlib.Core.Bool.{Bool, true, false, cond, not}
 use mathlib.Core.List.{List, [], ◌∷◌, ◌++◌}
-use Prim.Native.Nat.{ℕ, ◌+◌, ◌*◌, ◌≤◌}
+use Prim.Native.Nat.{ℕ, ◌+◌, ◌*◌, ◌/◌, ◌%◌, ◌≤◌}
 use native.Mathlib.Omega.{arith}
-use lib.Dec.{eqb}
+use lib.Dec.{eqb, ltb, leb}
 use lib.ListN.{length, take, drop, length-append}
 use lib.Seq.{take_at}
-use borrow.Author.Tests.{eqb-true, ne_eqb}
+use borrow.Author.Tests.{eqb-true, eqb-false, ne_eqb}
 use Rattle.text.specs.Bytes.{bytes}
 use Rattle.text.specs.Writing.{Out, wrote}
 use Rattle.text.proofs.Laws.{next}
 use Rattle.scan.proofs.Decimal.{at_most_5}
 use Rattle.meaning.specs.Texts.{bad_text}
+use Rattle.fields.specs.Fields.{read_header}
 use Rattle.csv_log.specs.declared.LogItem.{LogItem}
-use Rattle.csv_log.specs.Log.{FirstBad, log_in, item_numbers, at_record}
+use Rattle.csv_log.specs.Log.{Record, in_three, malformed, FirstBad, log_in, item_numbers, in_range, rises_after, count_of_lane, item_refusal, at_record, first_bad}
 use Rattle.csv_log.specs.Text.{in_turn}
 use Rattle.csv_log.specs.Writing.{records_in}
-use Rattle.csv_log.specs.Reading.{records_of, judged_file, log_read, numbers_after}
-use Rattle.csv_log.proofs.Logs.{AllIn, good_said, good_in, good_few, said_back}
+use Rattle.csv_log.specs.Reading.{records_of, judged_file, log_read, csv_read_answer, numbers_after, first_bad_answer}
+use Rattle.csv_log.proofs.Logs.{AllIn, item_passed, good_said, good_in, good_few, said_back}
 use Rattle.csv_log.proofs.Short.{numbers_length}
 use Rattle.csv_log.proofs.Numbers.{numbers_records}
 use Rattle.csv_log.proofs.Entries.{numbers_count, read_number, read_orders}
 use Rattle.files.proofs.Theorem.{file_passed}
 use Rattle.commands.specs.Csv.{log_item_text, csv_read_text, SaidFits}
 
+-- ---- the numbers of refusals and records are small
+
+chain_small : (a b c d : Bool) → ◌≤◌ (cond a 31 (cond b 32 (cond c 32 (cond d 32 0)))) 32
+chain_small true b c d = omega arith
+chain_small false true c d = omega arith
+chain_small false false true d = omega arith
+chain_small false false false true = omega arith
+chain_small false false false false = omega arith
+
+item_small : (earlier : List LogItem) (x : LogItem) → item_refusal earlier x ≤ 32
+unfolding item_refusal
+item_small earlier x = chain_small (not (in_range x)) (not (rises_after earlier x)) (leb 128 (length earlier)) (leb 16 (count_of_lane x.lane earlier))
+
+records_small : (earlier : List LogItem) (records : List Record) → length earlier ≤ 128
+    → ((first_bad earlier records).which ≤ 130) × ((first_bad earlier records).number ≤ 32)
+unfolding first_bad
+records_small earlier [] h = (omega arith, omega arith)
+records_small earlier (malformed ∷ records) h = (omega arith, omega arith)
+records_small earlier (in_three x ∷ records) h = go (eqb (item_refusal earlier x) 0) refl (λ l. records_small (x ∷ earlier) records l)
+  where
+    go : (b : Bool) → eqb (item_refusal earlier x) 0 ≡ b → (length (x ∷ earlier) ≤ 128 → ((first_bad (x ∷ earlier) records).which ≤ 130) × ((first_bad (x ∷ earlier) records).number ≤ 32))
+        → ((cond b (first_bad (x ∷ earlier) records) (at_record (length earlier + 2) (item_refusal earlier x))).which ≤ 130)
+        × ((cond b (first_bad (x ∷ earlier) records) (at_record (length earlier + 2) (item_refusal earlier x))).number ≤ 32)
+    go true e r = r (omega (arith, (item_passed earlier x (eqb-true _ 0 e)).2))
+    go false e r = (omega arith, item_small earlier x)
+
+pub judged_small : (s : List ℕ) → ((judged_file s).which ≤ 130) × ((judged_file s).number ≤ 32)
+unfolding judged_file
+judged_small s = go (ltb 48000 (length s)) (read_header s).ok
+  where
+    go : (b d : Bool) → ((cond b (at_record 0 1) (cond d (first_bad [] (records_of s)) (at_record 1 31))).which ≤ 130)
+        × ((cond b (at_record 0 1) (cond d (first_bad [] (records_of s)) (at_record 1 31))).number ≤ 32)
+    go true d = (omega arith, omega arith)
+    go false true = records_small [] (records_of s) (omega arith)
+    go false false = (omega arith, omega arith)
+
+-- ---- what reading 384 numbers answers
+
+-- the answer's lowest byte is the refusal, and the rest is the number of orders
+answer_parts : (k n : ℕ) → k ≤ 32 → (cond (eqb k 0) (256 * n) k % 256 ≡ k) × (k ≡ 0 → cond (eqb k 0) (256 * n) k / 256 ≡ n)
+answer_parts k n h = go (eqb k 0) refl
+  where
+    go : (b : Bool) → eqb k 0 ≡ b → (cond b (256 * n) k % 256 ≡ k) × (k ≡ 0 → cond b (256 * n) k / 256 ≡ n)
+    go true e = let z = eqb-true k 0 e in (omega arith, λ y. omega arith)
+    go false e = (omega arith, λ y. absurd (eqb-false k 0 e y))
+
+read_parts : (s numbers : List ℕ) (a : ℕ) → length numbers ≡ 384 → a ≡ csv_read_answer s numbers
+    → (a % 256 ≡ (judged_file s).number) × ((judged_file s).number ≡ 0 → a / 256 ≡ length (log_read s))
+unfolding csv_read_answer
+read_parts s numbers a h e = rw (e, ← read_number s numbers (judged_file s).which (judged_file s).number h refl) (answer_parts (judged_file s).number (length (log_read s)) (judged_small s).1)
+
 -- ---- a bad file
+
+pub bad_parts : (s : List ℕ) (b : ℕ) → b ≡ first_bad_answer s → ((judged_file s).number ≡ 0 → ⊥)
+    → (b / 256 ≡ (judged_file s).which) × (b % 256 ≡ (judged_file s).number)
+unfolding first_bad_answer
+bad_parts s b e h =
+    let m = judged_small s in
+    rw (e, ne_eqb (judged_file s).number 0 h) (omega arith, omega arith)
+
+pub answer_bad : (s numbers : List ℕ) (a : ℕ) → length numbers ≡ 384 → a ≡ csv_read_answer s numbers → (a % 256 ≡ 0 → ⊥) → (judged_file s).number ≡ 0 → ⊥
+answer_bad s numbers a h e n z = n ((read_parts s numbers a h e).0 ∙ z)
 
 pub said_bad : (o p : Out) (s : List ℕ) (which number : ℕ) → at_record which number ≡ judged_file s → (number ≡ 0 → ⊥) → p ≡ wrote o (bad_text which number)
     → p ≡ wrote o (csv_read_text s)
@@ -33,6 +95,13 @@ unfolding csv_read_text
 said_bad o p s which number e h q = rw (← e, ne_eqb number 0 h) q
 
 -- ---- a good one
+
+pub answer_good : (s numbers : List ℕ) (a : ℕ) → length numbers ≡ 384 → a ≡ csv_read_answer s numbers → a % 256 ≡ 0
+    → ((judged_file s).number ≡ 0) × (a / 256 ≡ length (log_read s))
+answer_good s numbers a h e n =
+    let r = read_parts s numbers a h e in
+    let z = sym r.0 ∙ n in
+    (z, r.1 z)
 
 -- they are at most 128
 few_said : (s : List ℕ) → (judged_file s).number ≡ 0 → length (log_read s) ≤ 128

@@ -9,6 +9,7 @@ use lib.Seq.{sets, take-suc, length-take-le}
 use Rattle.post.specs.declared.Post.{Post}
 use Rattle.row.specs.Rows.{post_in, part}
 use Rattle.roll.specs.Logs.{order_at, orders_logged}
+use Rattle.printout.proofs.Laws.{cells_some}
 use Rattle.csv_log.specs.declared.LogItem.{LogItem}
 use Rattle.csv_log.specs.Log.{item_numbers}
 use Rattle.csv_log.proofs.Entries.{numbers_count}
@@ -50,6 +51,10 @@ numbers_more l numbers after p places k n place h i e ep f =
     f ∙ rw (i, e, ep, add-one, take-suc places k 0 h, map-append, map-append, numbers_append, sets_append l 0 (numbers_at p (take k places)), m)
 
 -- ---- all of them
+
+-- a whole row has 128 places in its log
+pub whole_log : (row : List ℕ) → length row ≡ 543 → length (post_in row).log ≡ 128
+whole_log row h = sym (cells_some row 128 (omega arith) (omega arith))
 
 -- a log has no more than 128 places
 pub few_places : (row places : List ℕ) → places ≡ take (post_in row).logged (post_in row).log → length places ≤ 128

@@ -1,15 +1,17 @@
 -- Texts written one after the other, a log's items and a yard's posts one by one. Assumes nothing.
 use mathlib.Core.Path.{◌≡◌, ap, sym, ◌∙◌}
 use mathlib.Core.List.{List, [], ◌∷◌, ◌++◌, map-append, append-nil, append_assoc}
-use Prim.Native.Nat.{ℕ, ◌+◌, ◌/◌, ◌<◌}
+use Prim.Native.Nat.{ℕ, ◌+◌, ◌-◌, ◌/◌, ◌<◌, ◌≤◌, min}
 use native.Mathlib.Numerals.{add-one}
-use lib.ListN.{length, take, get_or}
+use native.Mathlib.Omega.{arith}
+use lib.ListN.{length, take, get_or, length-take, length-drop}
 use lib.Seq.{take-suc}
 use Rattle.text.specs.Bytes.{bytes}
 use Rattle.text.specs.Decimal.{decimal}
 use Rattle.text.specs.Writing.{Out, wrote}
 use Rattle.text.proofs.Laws.{next}
 use Rattle.post.specs.declared.Post.{Post}
+use Rattle.row.specs.Rows.{part, post_in}
 use Rattle.roll.specs.Logs.{order_at}
 use Rattle.roll.specs.Runs.{Order}
 use Rattle.meaning.specs.Texts.{three_text, item_text, items_text}
@@ -40,3 +42,12 @@ pub items_more : (o p q : Out) (post : Post) (places : List ℕ) (k place : ℕ)
     → place ≡ get_or places k 0 → q ≡ wrote p (item_text (order_at post place)) → q ≡ wrote o (items_at post (take (k + 1) places))
 items_more o p q post places k place h e ep f =
     rw (add-one, take-suc places k 0, map-append, items_one) (next _ _ _ e (rw ep at f))
+
+-- how many cells of the log a row has
+pub cells_none : (l : List ℕ) → length l < 414 → 0 ≡ length (post_in l).log
+unfolding post_in part
+cells_none l h = sym (simp (length-take, length-drop) (omega arith))
+
+pub cells_some : (l : List ℕ) (n : ℕ) → 414 ≤ length l → n ≡ min (length l - 414) 128 → n ≡ length (post_in l).log
+unfolding post_in part
+cells_some l n h e = simp (length-take, length-drop) (omega arith)

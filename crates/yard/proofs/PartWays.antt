@@ -8,7 +8,7 @@ use native.Mathlib.Omega.{arith}
 use lib.Dec.{ltb, eqb}
 use lib.ListN.{length, get_or, set}
 use lib.Seq.{set-get_or}
-use borrow.Author.Tests.{ne_eqb, eqb-true, eqb-false, not-false, lt-ltb, le-ltb, ltb-true}
+use borrow.Author.Tests.{ne_eqb, eqb-true, eqb-false, not-false, lt-ltb, le-ltb, ltb-true, leb-false}
 use Rattle.std.proofs.lemmas.Bool.{ltb-false}
 use Rattle.frame.specs.Refusals.{frame_refusal}
 use Rattle.frame.specs.ReadWrite.{read_of}
@@ -25,7 +25,8 @@ use Rattle.cells.specs.Tables.{order_place}
 use Rattle.post.specs.declared.Post.{Post}
 use Rattle.row.specs.Rows.{put_in}
 use Rattle.steps.specs.Refusals.{not_in_yard}
-use Rattle.yard.specs.Singles.{frames_after, absent_refusal, stops_hearing, frame_at}
+use Rattle.state.specs.Yards.{spent}
+use Rattle.yard.specs.Singles.{frames_after, absent_refusal, stops_hearing, frame_at, stops_beacon}
 
 -- ---- a lane and a state
 
@@ -173,3 +174,15 @@ first_noted s t lane serial before frames place ef h ep et = rw (← ef, lt-ltb 
 
 pub first_kept : (s : List ℕ) (lane serial before frames : ℕ) → frames ≡ get_or s 2 0 → frames ≤ before → Noted s s lane serial before
 first_kept s lane serial before frames ef h = rw (← ef, le-ltb before frames h)
+
+-- ---- what stops a beacon
+
+-- where nothing stops it the air has its length, and the post has sent fewer than 128
+pub beacon_left : (air : List ℕ) (p : Post) (beacons : ℕ) → stops_beacon air p beacons ≡ 0 → (length air ≡ 65536) × (beacons < 128)
+beacon_left air p beacons z =
+    let r27 : ℕ = cond (spent beacons) 27 0 in
+    let r21 : ℕ = cond (not_in_yard p.posts p.lane) 21 r27 in
+    let a = passed (bad_air air) 13 r21 (omega arith) z in
+    let b = passed (not_in_yard p.posts p.lane) 21 r27 (omega arith) a.1 in
+    let d = passed (spent beacons) 27 0 (omega arith) b.1 in
+    (eqb-true (length air) 65536 (not-false _ a.0), leb-false 128 beacons d.0)

@@ -1,5 +1,5 @@
 -- A line's step on a state: what each form's function leaves is what the line asks for. Assumes nothing.
-use mathlib.Core.Path.{◌≡◌, ap}
+use mathlib.Core.Path.{◌≡◌, refl, ap}
 use mathlib.Core.List.{List}
 use Prim.Native.Nat.{ℕ, ◌%◌}
 use Rattle.steps.specs.Answers.{order_number, hear_number, beacon_number}
@@ -7,8 +7,11 @@ use Rattle.steps.specs.OrderAnswer as orders
 use Rattle.steps.specs.HearAnswer as hearings
 use Rattle.steps.specs.BeaconAnswer as beaconing
 use Rattle.told.specs.Told.{order_told, hear_told, beacon_told}
-use Rattle.std.specs.Prelude.{Result, Ok}
+use Rattle.std.specs.Prelude.{Result, Ok, Err}
 use Rattle.refusal.specs.declared.Refusal.{Refusal}
+use Rattle.refusal.specs.Numbers.{refused_with}
+use Rattle.steps.specs.declared.Sent.{Sent}
+use Rattle.steps.specs.declared.Hearing as heard
 use Rattle.lines.specs.declared.Line as reads
 use Rattle.lines.specs.Line.{line_answer, Line, Order, Hear, Beacon, Roll}
 use Rattle.state.specs.States.{held_in}
@@ -23,6 +26,22 @@ use Rattle.script.specs.OnState.{run_in, refusal_in, told_in}
 -- a line that was read, and what it is
 pub read_as : (l : Result reads.Line Refusal) (x y : reads.Line) → l ≡ Ok x → x ≡ y → line_answer l ≡ line_answer (Ok y)
 read_as l x y e f = rw (e, f)
+
+-- the number that a result was refused with is its answer's
+pub order_same : (r : Result Sent Refusal) → refused_with r ≡ order_number (orders.order_answer r)
+order_same (Ok sent) = refl
+order_same (Err refusal) = refl
+
+pub hear_same : (r : Result heard.Hearing Refusal) → refused_with r ≡ hear_number (hearings.hear_answer r)
+hear_same (Ok (heard.TheVariants.Taken count)) = refl
+hear_same (Ok (heard.TheVariants.Again count)) = refl
+hear_same (Ok (heard.TheVariants.Early count)) = refl
+hear_same (Ok (heard.TheVariants.Beacon count)) = refl
+hear_same (Err refusal) = refl
+
+pub beacon_same : {A : Type 0} (r : Result A Refusal) → refused_with r ≡ beacon_number (beaconing.beacon_answer r)
+beacon_same (Ok _) = refl
+beacon_same (Err refusal) = refl
 
 -- what a line's step tells and leaves
 abbrev pub LineRan : List ℕ → List ℕ → List ℕ → List ℕ → Line → ℕ → Type 0

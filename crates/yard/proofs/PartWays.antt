@@ -8,7 +8,7 @@ use native.Mathlib.Omega.{arith}
 use lib.Dec.{ltb, eqb}
 use lib.ListN.{length, get_or, set}
 use lib.Seq.{set-get_or}
-use borrow.Author.Tests.{ne_eqb, eqb-true, eqb-false, not-false, lt-ltb, le-ltb, ltb-true, leb-false}
+use borrow.Author.Tests.{ne_eqb, eq-eqb, eqb-true, eqb-false, not-false, le-leb, lt-leb, lt-ltb, le-ltb, ltb-true, leb-false}
 use Rattle.std.proofs.lemmas.Bool.{ltb-false}
 use Rattle.frame.specs.Refusals.{frame_refusal}
 use Rattle.frame.specs.ReadWrite.{read_of}
@@ -24,7 +24,7 @@ use Rattle.air.proofs.Laws.{has_place, kept_bytes}
 use Rattle.cells.specs.Tables.{order_place}
 use Rattle.post.specs.declared.Post.{Post}
 use Rattle.row.specs.Rows.{put_in}
-use Rattle.steps.specs.Refusals.{not_in_yard}
+use Rattle.steps.specs.Refusals.{not_in_yard, beacon_refusal}
 use Rattle.state.specs.Yards.{spent}
 use Rattle.yard.specs.Singles.{frames_after, absent_refusal, stops_hearing, frame_at, stops_beacon}
 
@@ -175,7 +175,33 @@ first_noted s t lane serial before frames place ef h ep et = rw (← ef, lt-ltb 
 pub first_kept : (s : List ℕ) (lane serial before frames : ℕ) → frames ≡ get_or s 2 0 → frames ≤ before → Noted s s lane serial before
 first_kept s lane serial before frames ef h = rw (← ef, le-ltb before frames h)
 
--- ---- what stops a beacon
+-- ---- what stops a beacon: 13, what the post's own step refuses, 27, or nothing
+
+module _ (air : List ℕ) (p : Post) (beacons : ℕ) where
+  pub beacon_no_air : (length air ≡ 65536 → ⊥) → 13 ≡ stops_beacon air p beacons
+  beacon_no_air bad = rw (ne_eqb (length air) 65536 bad)
+
+  module _ (good : length air ≡ 65536) where
+    pub beacon_refused : (n : ℕ) → n ≡ beacon_refusal p → (n ≡ 0 → ⊥) → n ≡ stops_beacon air p beacons
+    beacon_refused n e h = rw (eq-eqb (length air) 65536 good) (go (not_in_yard p.posts p.lane) refl)
+      where
+        go : (b : Bool) → not_in_yard p.posts p.lane ≡ b → n ≡ cond b 21 (cond (spent beacons) 27 0)
+        go true q = rw q at e
+        go false q = absurd (h (rw q at e))
+
+    -- the post has sent its beacons, or has some left
+    own : (m : ℕ) → ◌≡◌ {A = ℕ} 0 (beacon_refusal p) → m ≡ cond (spent beacons) 27 0 → m ≡ stops_beacon air p beacons
+    own m e em = rw (eq-eqb (length air) 65536 good) (go (not_in_yard p.posts p.lane) refl)
+      where
+        go : (b : Bool) → not_in_yard p.posts p.lane ≡ b → m ≡ cond b 21 (cond (spent beacons) 27 0)
+        go true q = absurd (let z : ◌≡◌ {A = ℕ} 0 21 = rw q at e in omega arith)
+        go false q = em
+
+    pub beacon_spent : ◌≡◌ {A = ℕ} 0 (beacon_refusal p) → 128 ≤ beacons → ◌≡◌ {A = ℕ} 27 (stops_beacon air p beacons)
+    beacon_spent e h = own 27 e (rw (le-leb 128 beacons h))
+
+    pub beacon_goes : ◌≡◌ {A = ℕ} 0 (beacon_refusal p) → beacons < 128 → ◌≡◌ {A = ℕ} 0 (stops_beacon air p beacons)
+    beacon_goes e h = own 0 e (rw (lt-leb 128 beacons h))
 
 -- where nothing stops it the air has its length, and the post has sent fewer than 128
 pub beacon_left : (air : List ℕ) (p : Post) (beacons : ℕ) → stops_beacon air p beacons ≡ 0 → (length air ≡ 65536) × (beacons < 128)
